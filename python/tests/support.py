@@ -43,7 +43,12 @@ class Room(unittest.TestCase):
         return path
 
     def script(self, text: str, name: str = "program") -> str:
-        """A program that is a script of the shell, in which PROGRAM and WIDE are the real ones and ROOM the directory."""
+        """A program that is a script of the shell, in which PROGRAM and WIDE are the real ones and ROOM the directory.
+
+        In place of `bsonwide` it says the version by itself, unless its text does.
+        """
+        if name.endswith("bsonwide") and "--version" not in text:
+            text = f'[ "$1" = --version ] && exec "$WIDE" --version\n{text}'
         path = self.file(f"#!/bin/sh\nPROGRAM='{PROGRAM}'\nWIDE='{WIDE}'\nROOM='{self.room}'\n{text}\n".encode(), name)
         path.chmod(0o755)
         return str(path)
@@ -54,7 +59,10 @@ class Room(unittest.TestCase):
         return self.script('exec "$PROGRAM" "$@"')
 
     def counting(self) -> str:
-        """The program, of which each start is a line of the file `starts`; a start of `bsonwide` has this name before its words."""
+        """The program, of which each start is a line of the file `starts`, but those of `bsonwide` for its version.
+
+        A start of `bsonwide` has this name before its words.
+        """
         self.script('echo bsonwide "$@" >>"$ROOM/starts"\nexec "$WIDE" "$@"', "bsonwide")
         return self.script('echo "$@" >>"$ROOM/starts"\nexec "$PROGRAM" "$@"')
 
@@ -66,7 +74,7 @@ class Room(unittest.TestCase):
     def stuck(self) -> str:
         """The programs, of which the first start answers, and the others never do; `pids` has the numbers of those."""
         first = 'if mkdir "$ROOM/first" 2>/dev/null; then exec "${}" "$@"; fi\necho $$ >>"$ROOM/pids"\nexec sleep 600'
-        self.script(first.format("WIDE"), "bsonwide")
+        self.script(f"# it answers --version too\n{first.format('WIDE')}", "bsonwide")
         return self.script(first.format("PROGRAM"))
 
     def interrupt(self, code: str, stuck: int) -> int:

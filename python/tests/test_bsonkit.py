@@ -44,6 +44,16 @@ class Arguments(Room):
         for word in ("+5", "007"):
             self.assertEqual(len(run_package("find", str(PEOPLE), "--limit", word).stdout.splitlines()), int(word))
 
+    def test_long_queries(self) -> None:
+        """A query of more bytes than an argument of a program may have, which is read from where it is."""
+        numbers = ",".join(str(number) for number in range(90, 40_000))
+        query = f'{{"age":{{"$in":[{numbers}]}}}}'
+        self.assertGreater(len(query), 1 << 17)
+        code = f"import sys\nfrom bsonfind.__main__ import main\nsys.exit(main(['--program', {PROGRAM!r}, 'find', {str(PEOPLE)!r}, '--query', sys.stdin.read()]))"
+        run = subprocess.run([sys.executable, "-c", code], env=environment(), input=query, capture_output=True, text=True)
+        self.assertEqual((run.returncode, len(run.stdout.splitlines())), (0, 49), run.stderr)
+        self.assertRegex(run.stderr, "^49 documents, end, token ")
+
     def test_options_are_not_shortened(self) -> None:
         for words in (("find", str(PEOPLE), "--lim", "1"), ("audit", str(PEOPLE), "--js"), ("--prog", PROGRAM, "check", str(PEOPLE))):
             self.assertRegex(self.refused(*words), "unrecognized arguments|invalid choice")
@@ -184,18 +194,39 @@ class Becoming(Room):
 
 
 class Programs(Room):
+    def commands(self) -> List[Tuple[Tuple[str, ...], int]]:
+        """The words of each command that starts `bsonwide`, and the status of one that fails."""
+        plain, packed = str(PEOPLE), str(self.file(gzip.compress(PEOPLE.read_bytes()), "packed.bson.gz"))
+        wide, bad = str(self.file(DOUBLE, "backup/wide.bson")), str(self.file(DAMAGED, "bad.bson"))
+        ids = str(self.file(b"7\n", "ids"))
+        return [
+            (("check", plain), 1), (("check", packed), 1), (("dump", plain), 1), (("dump", packed, packed), 1), (("find", wide), 1),
+            (("find", plain, "--bson"), 1), (("prepare", plain, f"{self.room}/copy"), 1), (("audit", bad, plain), 2),
+            (("salvage", plain, "--good", f"{self.room}/g", "--bad", f"{self.room}/b"), 2),
+            (("salvage", f"{self.room}/backup", "--out", f"{self.room}/out"), 2), (("compare", plain, plain), 2),
+            (("query", plain, wide, "--query", '{"d":1.5}'), 2), (("ids", wide, "--ids", ids), 2), (("ids", plain, "--ids", ids, "--bson"), 2),
+        ]  # fmt: skip
+
     def test_version(self) -> None:
-        """One of another version is refused, and what is no bsonwide."""
+        """One of another version is refused by each command that starts it, and so is what is no bsonwide."""
         for text, told in (
             ("echo bsonwide 9.9.9", "is of version 9.9.9, and the package of Python of version"),
             ("echo something else", "is not bsonwide: it printed 'something else"),
             ("exit 3", "ended with status 3"),
         ):
             program = self.wide(f'if [ "$1" = --version ]; then {text}; exit; fi\nexec "$WIDE" "$@"')
-            for words in (("audit", str(PEOPLE)), ("compare", str(PEOPLE), str(PEOPLE)), ("salvage", str(PEOPLE), "--good", f"{self.room}/g", "--bad", f"{self.room}/b")):
+            for words, status in self.commands():
                 run = run_package("--program", program, *words)
-                self.assertEqual((run.returncode, run.stdout), (2, ""), words)
+                self.assertEqual((run.returncode, run.stdout), (status, ""), words)
                 self.assertIn(told, run.stderr)
+
+    def test_version_is_asked_once(self) -> None:
+        program = self.wide('echo "$1" >>"$ROOM/starts"\n[ "$1" = --version ] && exec "$WIDE" --version\nexec "$WIDE" "$@"')
+        for words, _ in self.commands():
+            run_package("--program", program, *words, stdout=subprocess.DEVNULL)
+            starts = self.starts()
+            self.assertEqual((starts.count("--version"), starts[0], len(starts) > 1), (1, "--version", True), words)
+            (self.room / "starts").unlink()
 
     def test_beside_the_package(self) -> None:
         """The program that was installed with the package comes before those on PATH."""

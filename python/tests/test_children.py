@@ -109,7 +109,7 @@ class Children(Room):
         code = """
 from bsonfind import *
 path, program = sys.argv[1:]
-for call in (lambda: list(find(path, program=program)), lambda: check_parts(plan(path), program=program), lambda: audit(path, program=program)):
+for call in (lambda: list(find(path, program=program)), lambda: check_parts(plan(path), program=program), lambda: audit(path, program=program).reports[0].error):
     try:
         print(call())
     except BsonfindError as error:

@@ -253,6 +253,12 @@ class Audits(Room):
         (told,) = json.loads(audit(path, program=PROGRAM).as_json())["files"]
         self.assertEqual([(it["value"], it["goes_on"]) for it in told["faults"]][:2], [(2, None), (255, None)])
         self.assertEqual(told["faults"][0]["id"], json.loads(ids[0]))
+        # An id that has a fault itself is left out, and nothing else leaves one out.
+        (report,) = audit(self.file(document(field(2, "_id", b"\2\0\0\0\xff\0")), "id.bson"), program=PROGRAM).reports
+        self.assertEqual(list(report.lines())[0], 'document 0, byte 13, path "_id": not UTF-8 ff')
+        killed = self.wide('[ "$1" = dump ] && kill -9 $$\nexec "$WIDE" "$@"')
+        (report,) = audit(path, program=killed).reports
+        self.assertEqual((report.error, report.is_fault, report.faults[0].kind), ("ended by signal 9", False, "bad boolean"))
         cut = self.file(SHOP.read_bytes()[:100_000], "cut.bson")
         (report,) = audit(cut, program=PROGRAM).reports
         self.assertEqual((report.documents, report.rest), (310, 191))

@@ -9,7 +9,7 @@ from typing import Callable, Iterable
 
 from .._dumps.archive import Archive
 from .._dumps.archive_frames import Namespace
-from .._dumps.checking import Checking, try_program
+from .._dumps.checking import Checking
 from .._dumps.files import name_in
 from .._dumps.sources import Source
 from .._errors import ArgumentError, BsonfindError, DumpError
@@ -17,6 +17,7 @@ from .._faults import Fault, NO_DAMAGE
 from .._names import File, name_of
 from .._numbers import whole
 from .._run.processes import Group, processors
+from .._run.wide import wide_program
 from .backups import Dump, dumps_of, is_inside, namespace_of, place_of, read_log, text_lines
 from .damage import details_of, rest_after
 from .metadata import fault_of_listed, fault_of_metadata
@@ -58,7 +59,7 @@ def audit_dumps(
 ) -> Audit:
     """Checks dumps, and passes on the report of each as soon as it is there. What prints how far it is gets how many files and bytes."""
     log = read_log(text_lines(expect)) if expect is not None else None
-    try_program(program)
+    wide_program(program)
     sizes = {it.file: it.size or 0 for it in dumps}
     with watch(len(dumps), sum(sizes.values())) as progress:
         reports = _check_all(dumps, _Checker(max_faults, program, take, progress), jobs or processors())

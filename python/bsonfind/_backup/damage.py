@@ -9,7 +9,7 @@ from .._dumps.elements import value_at
 from .._dumps.framing import LONGEST, walk
 from .._dumps.printing import texts_of_values
 from .._dumps.sources import Source
-from .._errors import BsonfindError, DumpError
+from .._errors import DumpError
 from .._faults import Fault
 from .._run.processes import Group
 from .beginnings import Beginnings, Check
@@ -55,15 +55,10 @@ def details_of(source: Source, faults: Sequence[Fault], program: str, group: Gro
     if not source.is_plain or not faults:
         return {}
     file, size = source.file, source.size or 0
-    try:
-        return {
-            fault.document: _detail(file, size, fault, start, end, program, group)
-            for fault, (start, end) in zip(faults, _documents(file, faults))
-        }
-    except (BsonfindError, OSError):
-        if group.is_ended:
-            raise
-        return {}  # The file is no longer as it was, or cannot be read, which its check says.
+    return {
+        fault.document: _detail(file, size, fault, start, end, program, group)
+        for fault, (start, end) in zip(faults, _documents(file, faults))
+    }
 
 
 def _documents(file: BinaryIO, faults: Sequence[Fault]) -> Iterator[tuple[int, int | None]]:
@@ -89,13 +84,15 @@ def _detail(file: BinaryIO, size: int, fault: Fault, start: int, end: int | None
 
 
 def _id_of(head: bytes, program: str, group: Group) -> str | None:
-    """The id as `dump` prints it, by a document that has it alone; None if it is not the first field, or damaged too."""
+    """The id as `dump` prints it, by a document that has it alone; None if it is not the first field, or has a fault itself."""
     value = value_at(head, [b"_id"]) if head[5:9] == b"_id\0" else None
     if value is None:
         return None
     try:
         (text,) = texts_of_values([value], program, group)
-    except DumpError:
+    except DumpError as error:
+        if not error.fault:
+            raise
         return None
     return text
 

@@ -7,12 +7,12 @@ from collections import deque
 from contextlib import ExitStack, nullcontext
 from typing import Callable, ContextManager, NamedTuple
 
-from .._dumps.checking import try_program
 from .._dumps.outputs import Output, refuse_names
 from .._dumps.sources import Source
 from .._errors import ArgumentError, DumpError
 from .._names import File, name_of
 from .._run.processes import Run, processors
+from .._run.wide import wide_program
 from .beginnings import Beginnings, Check
 from .window import Window
 
@@ -81,7 +81,7 @@ def salvage(
         try:
             source = files.enter_context(Source(path))
             refuse_names(source.name, *names)
-            try_program(program)
+            wide_program(program)
             outputs = [files.enter_context(Output(name, source.mode)) for name in names]
             files.enter_context(progress(source))
             done = Salvaging(source, outputs[0], outputs[1], program, say or (lambda _: None)).copy()

@@ -7,10 +7,10 @@ from contextlib import ExitStack
 from functools import partial
 from typing import Callable, ContextManager, NamedTuple
 
-from .._dumps.checking import try_program
 from .._dumps.outputs import NewOutput, is_same
 from .._dumps.sources import Source
 from .._errors import ArgumentError, BsonfindError, FileError
+from .._run.wide import wide_program
 from .backups import Dump, dumps_below, stem_of_file
 from .metadata import metadata_of
 from .salvage import Salvaged, Salvaging
@@ -42,7 +42,7 @@ def salvage_directory(
         raise ArgumentError(f"{directory} is no directory: give --good and --bad for a dump")
     if not out or is_same(directory, out) or os.path.realpath(out).startswith(os.path.realpath(directory) + os.sep):
         raise ArgumentError("the directory of --out is another one, and not below that of the dumps")
-    try_program(program)
+    wide_program(program)
     done = SalvagedDirectory({}, [])
     for dump in list(dumps_below(directory)):
         try:

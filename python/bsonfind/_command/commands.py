@@ -183,11 +183,11 @@ def _run_unpack(words: argparse.Namespace) -> int:
 
 def _run_compare(words: argparse.Namespace) -> int:
     from .._backup.compare import CompareError, NOTHING, compare, pairs_of, rows
-    from .._dumps.checking import try_program
+    from .._run.wide import wide_program
 
     console = Console()
     _refuse_twice([words.first, words.second])
-    try_program(words.program)
+    wide_program(words.program)
     pairs, problems = pairs_of(words.first, words.second)
     is_of_directories, total, compared = os.path.isdir(words.first), NOTHING, 0
     for pair in pairs:
@@ -236,7 +236,7 @@ def _run_ids(words: argparse.Namespace) -> int:
     from .._dumps.outputs import Output, refuse_names
 
     console = Console()
-    ids = Ids(text_lines(words.ids), words.ids)
+    ids = Ids(text_lines(words.ids), words.ids, words.program)
     if words.missing is not None:
         refuse_names(words.file, words.missing, words.ids)
     with ExitStack() as files:

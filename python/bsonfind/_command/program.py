@@ -6,7 +6,8 @@ import os
 import signal
 import stat
 
-from .._run.program import located_wide
+from .. import __version__
+from .._run.program import located_wide, says
 
 # The signals that Python ignores by itself.
 _IGNORED = (signal.SIGPIPE, signal.SIGXFSZ)
@@ -21,8 +22,8 @@ _COMMANDS = {"check": "-", "dump": "-"}
 def become_program(words: list[str]) -> None:
     """Becomes the program for a command over one plain file; returns if the command is another one, or if that is not possible.
 
-    The file that was opened to look at it is passed on as standard input, so no name is opened twice. Signals are as the shell gave
-    them: Python ignores two, which is undone, and an exec undoes its handlers.
+    One of another version is refused as in other commands. The file that was opened to look at it is passed on as standard input, so
+    no name is opened twice. Signals are as the shell gave them: Python ignores two, which is undone, and an exec undoes its handlers.
     """
     rest, program = list(words), "bsonfind"
     if rest[:1] == ["--program"] and len(rest) > 1:
@@ -30,7 +31,7 @@ def become_program(words: list[str]) -> None:
     if len(rest) != 2 or rest[0] not in _COMMANDS or rest[1] != "-" and rest[1].startswith("-"):
         return
     wide = located_wide(program)
-    if wide is None or not _take_as_input(rest[1]):
+    if wide is None or not (_has_streams() and _take_as_input(rest[1]) and says(wide, f"bsonwide {__version__}\n".encode())):
         return
     for number in _IGNORED:
         signal.signal(number, signal.SIG_DFL)
@@ -41,11 +42,17 @@ def become_program(words: list[str]) -> None:
             signal.signal(number, signal.SIG_IGN)  # The command says why it cannot be started.
 
 
-def _take_as_input(name: str) -> bool:
-    """Makes standard input of a plain file; False if it is another one, or a standard stream is closed."""
+def _has_streams() -> bool:
+    """Whether no standard stream is closed."""
     try:
-        for number in range(3):
-            os.fstat(number)
+        return all(os.fstat(number) for number in range(3))
+    except OSError:
+        return False
+
+
+def _take_as_input(name: str) -> bool:
+    """Makes standard input of a plain file; False if it is another one."""
+    try:
         descriptor = 0 if name == "-" else _opened(name)
     except (OSError, ValueError):
         return False  # What reads it says what is wrong with it.

@@ -9,12 +9,10 @@ from typing import Iterator
 from .._errors import DumpError, ProgramError
 from .._faults import Fault, read_fault
 from .._run.processes import Group, Run
-from .._run.program import wide_beside
+from .._run.wide import wide_program
 from .sources import Input, Source
 
 _COUNTED = re.compile(r"(\d+) documents, (\d+) faulty\n")
-_VERSION = re.compile(r"bsonwide (\S+)\n")
-_PIECE = 1 << 10
 # What `order` says that is read no more.
 NOT_READ = "bsonwide: cannot write"
 # The faults that `bsonfind` alone reports.
@@ -78,21 +76,4 @@ def finish_check(run: Run, wanted: int | None = None) -> int:
 
 def checking(given: Input, program: str, group: Group | None = None) -> Run:
     """A run that checks some documents of all types."""
-    return given.run([wide_beside(program), "check", "-"], group=group)
-
-
-def try_program(program: str) -> None:
-    """Refuses a program that cannot be started or that is of another version than the package, before anything else is done."""
-    from .. import __version__
-
-    wide = wide_beside(program)
-    with Run([wide, "--version"]) as run:
-        told = run.stdout.read(_PIECE).decode(errors="replace")
-        status, said = run.wait(), run.messages()
-        if status or said:
-            raise run.error()
-    found = _VERSION.fullmatch(told)
-    if not found:
-        raise ProgramError(f"{wide} is not bsonwide: it printed {told[:60]!r}")
-    if found[1] != __version__:
-        raise ProgramError(f"{wide} is of version {found[1]}, and the package of Python of version {__version__}: install one version of both")
+    return given.run([wide_program(program, group), "check", "-"], group=group)

@@ -9,13 +9,14 @@ from typing import Generator, Iterable, Sequence
 
 from .._errors import DumpError, ProgramError
 from .._run.processes import Group, Run
-from .._run.program import wide_beside
+from .._run.wide import wide_program
 from .elements import document_with
 from .sources import Input, Source
 
 Batches = Generator["list[bytes]", None, None]
 _PIECE = 1 << 16
 _FOUND = re.compile(r"(\d+) objects found\n")
+PACKED = re.compile(r"\d+ objects packed\n")
 
 
 class Printing:
@@ -23,7 +24,7 @@ class Printing:
 
     def __init__(self, program: str, stdout: int = subprocess.PIPE) -> None:
         """Where the runs print to a descriptor, no lines are given."""
-        self._words, self._stdout = [wide_beside(program), "dump", "-"], stdout
+        self._words, self._stdout = [wide_program(program), "dump", "-"], stdout
         self.documents = 0
 
     def lines(self, path: str, *, is_named: bool = False) -> Batches:
@@ -49,7 +50,7 @@ class Printing:
 
 def lines_of_documents(documents: Sequence[bytes], program: str, group: Group | None = None) -> list[bytes]:
     """The lines of some documents, by one run. A fault is a `DumpError` that counts in these documents."""
-    with Run([wide_beside(program), "dump", "-"], documents, group=group) as run:
+    with Run([wide_program(program, group), "dump", "-"], documents, group=group) as run:
         lines = [line for batch in lines_of(run.stdout) for line in batch]
         refuse_other_count(finish_dump(run), len(documents))
     return lines
@@ -59,6 +60,14 @@ def texts_of_values(values: Sequence[bytes], program: str, group: Group | None =
     """The texts of values as `dump` prints them, each by a document that has it alone."""
     lines = lines_of_documents([document_with(b"", it) for it in values], program, group)
     return [line[len('{"":') : -1].decode() for line in lines]
+
+
+def pack_lines(lines: Iterable[bytes], program: str, group: Group | None = None) -> bytes:
+    """The documents of lines, as `pack` makes them."""
+    with Run([program, "pack", "-"], lines, group=group) as run:
+        data = run.stdout.read()
+        run.finish(PACKED)
+    return data
 
 
 def finish_dump(run: Run) -> int:

@@ -8,7 +8,8 @@ import os
 import re
 import subprocess
 import threading
-from typing import IO, Any, BinaryIO, Callable, Iterable, NamedTuple, Sequence
+from contextlib import contextmanager
+from typing import IO, Any, BinaryIO, Callable, Iterable, Iterator, NamedTuple, Sequence
 
 from .._errors import ArgumentError, BsonfindError, OtherProcessError, ProgramError, TimedOutError
 from .messages import error_of, own_text
@@ -63,11 +64,25 @@ class Group:
             for process in self._processes:
                 process.kill()
 
+    @contextmanager
+    def within(self, timeout: float | None) -> Iterator[None]:
+        """Ends the group where what is done meanwhile takes longer than this many seconds."""
+        timer = None if timeout is None else self._timer_of(timeout)
+        try:
+            yield
+        finally:
+            if timer:
+                timer.cancel()
+
+    def _timer_of(self, timeout: float) -> threading.Timer:
+        timer = threading.Timer(timeout, self.end, [TimedOutError(f"no answer within {timeout:g} seconds")])
+        timer.daemon = True
+        timer.start()
+        return timer
+
     def end_after(self, timeout: float) -> None:
         """Ends the group once this many seconds have passed, unless `rest` comes first."""
-        self._timer = threading.Timer(timeout, self.end, [TimedOutError(f"no answer within {timeout:g} seconds")])
-        self._timer.daemon = True
-        self._timer.start()
+        self._timer = self._timer_of(timeout)
 
     def rest(self) -> None:
         """Takes back what `end_after` has set."""

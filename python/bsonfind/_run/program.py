@@ -26,6 +26,24 @@ def located_wide(program: str) -> str | None:
     return _wide_beside(program) or (_found("bsonwide") if _found(program) else None)
 
 
+def says(program: str, text: bytes) -> bool:
+    """Whether a program prints this text for --version. Little is imported for it, since what becomes the program asks so too."""
+    read, write = os.pipe()
+    with open(read, "rb") as pipe:
+        try:
+            child = os.posix_spawn(program, [program, "--version"], os.environ, file_actions=[(os.POSIX_SPAWN_DUP2, write, 1)])
+        except OSError:
+            return False  # Whoever starts it says why.
+        finally:
+            os.close(write)
+        told = pipe.read(len(text) + 1)
+    try:
+        os.waitpid(child, 0)
+    except ChildProcessError:
+        pass  # Where SIGCHLD is ignored nothing is waited for.
+    return told == text
+
+
 def _wide_beside(program: str) -> str | None:
     found = _found(program)
     for file in (found, os.path.realpath(found)) if found else ():
