@@ -9,8 +9,7 @@ import tracemalloc
 from typing import List, Tuple
 from unittest import mock
 
-from bsonfind._backup.compare import Pair, compare
-from bsonfind._backup.fields import field_of, id_of
+from bsonfind._backup.compare import CompareError, Pair, compare
 from bsonfind._backup.sorting import Sorter
 
 from .archives import archive
@@ -205,33 +204,21 @@ class Compares(Room):
         self.assertLess(peaks[1], 1.5 * peaks[0])
 
 
-class Fields(Room):
-    def test_texts_of_fields(self) -> None:
-        line = '{"a":{"b":1,"":{"c":[1,{"d":2}]},"b":3},"é\\"":"\\u0001","_id":{"$oid":"x"}}'.encode()
-        for names, wanted in (
-            (["a", "b"], b"1"),
-            (["a", "", "c"], b'[1,{"d":2}]'),
-            (["a", "", "c", "0"], None),
-            (['é"'], b'"\\u0001"'),
-            (["_id"], b'{"$oid":"x"}'),
-            (["_id", "c"], None),
-            (["b"], None),
-        ):
-            self.assertEqual(field_of(line, names), wanted)
-        for line, wanted in (
-            (b'{"_id":{"$oid":"0af98b87145f708ed341a680"},"a":1}', b'{"$oid":"0af98b87145f708ed341a680"}'),
-            (b'{"_id":{"$numberInt":"-7"}}', b'{"$numberInt":"-7"}'),
-            (b'{"_id":"a,}b","c":1}', b'"a,}b"'),
-            (b'{"_id":"a\\"}","c":1}', b'"a\\"}"'),
-            (b'{"a":{"_id":1},"_id":{"$numberInt":"2","b":1}}', b'{"$numberInt":"2","b":1}'),
-            (b'{"_id":{"$numberInt":"2","b":1}}', b'{"$numberInt":"2","b":1}'),
-            (b'{"_id":null}', b"null"),
-            (b"{}", None),
-        ):
-            self.assertEqual(id_of(line), wanted)
-        for number, line in enumerate(SHOP_LINES + PEOPLE_LINES):
-            self.assertEqual(json.loads(id_of(line) or b""), json.loads(line)["_id"], number)
+class Large(Room):
+    def test_larger_than_what_a_run_reads(self) -> None:
+        """With a largest input of 30,000 bytes in place of 4,294,967,295: what differs, and a fault with its place in the dump."""
+        data, changed = PEOPLE.read_bytes(), packed([line.decode() for line in PEOPLE_LINES[1:]])
+        pair = Pair("people", str(PEOPLE), str(self.file(changed)))
+        bad = Pair("people", str(PEOPLE), str(self.file(data + DAMAGED, "bad.bson")))
+        with mock.patch("bsonfind._dumps.framing.LARGEST_INPUT", 30_000):
+            said: List[str] = []
+            done = compare(pair, "_id", PROGRAM, said.append)
+            self.assertEqual((said, done.documents, done.kinds["same"]), (['removed {"$numberInt":"0"}'], (500, 499), 499))
+            with self.assertRaisesRegex(CompareError, f'document 500, byte {len(data) + 7}, path "d": bad boolean'):
+                compare(bad, "_id", PROGRAM, said.append)
 
+
+class Lines(Room):
     def test_sorted_lines(self) -> None:
         chance = random.Random(4)
         lines = [os.urandom(chance.randrange(9)).replace(b"\n", b"") + b"\n" for _ in range(2000)]

@@ -4,6 +4,8 @@ import gzip
 import json
 import os
 import struct
+import subprocess
+import sys
 import threading
 from typing import List
 from unittest import mock
@@ -13,7 +15,8 @@ from bsonfind._backup.backups import Dump
 from bsonfind._backup.ids import Ids, find_ids
 from bsonfind._backup.query import query_dumps
 
-from .support import DAMAGED, PEOPLE, PEOPLE_LINES, PROGRAM, SHOP, SHOP_LINES, Room, packed, run_package
+from .bson import document, field, text
+from .support import DAMAGED, PEOPLE, PEOPLE_LINES, PROGRAM, SHOP, SHOP_LINES, Room, environment, packed, run_package
 
 OLD = '{"age":{"$gte":90}}'
 OLD_LINES = [line.decode() for line in PEOPLE_LINES if int(json.loads(line)["age"]["$numberInt"]) >= 90]
@@ -118,9 +121,9 @@ class AsksForIds(Room):
         path = self.file(packed(documents))
         asked = [
             "2", '{"$numberLong":"1"}', '"3"', "0AF98B87145F708ED341A680", ' {"b": 1, "c": "\\u00e9"} ', "", "true",
-            "null", '"6"', "3", "false", '{"c":"é","b":1}', "2",
+            "null", '{"$symbol":"6"}', "3", "false", '{"c":"é","b":1}', "2", '"6"', '{"b":{"$numberLong":"1"},"c":"é"}',
         ]  # fmt: skip
-        told = 'missing: 3\nmissing: false\nmissing: {"c":"é","b":1}\n8 of 11 ids found\n'
+        told = 'missing: 3\nmissing: false\nmissing: {"c":"é","b":1}\nmissing: "6"\nmissing: {"b":{"$numberLong":"1"},"c":"é"}\n8 of 13 ids found\n'
         found = self.ids(asked, status=1, told=told, path=path)
         self.assertEqual([packed([line]) for line in found], [packed([documents[at]]) for at in (0, 1, 2, 3, 4, 5, 6, 8)])
 
@@ -147,6 +150,39 @@ class AsksForIds(Room):
         found = self.ids(ids, status=0, told="8 of 8 ids found\n", path=self.file(data))
         self.assertEqual(packed(found), data)
 
+    def test_numbers_inside(self) -> None:
+        """In a document a number is one of its type."""
+        inside = [document(field(3, "_id", document(field(1, "a", struct.pack("<d", it))))) for it in (1.5, 2.0)]
+        ids = ['{"a":1.5}', '{"a":2}', '{"a":{"$numberDouble":"2.0"}}']
+        found = self.ids(ids, status=1, told='missing: {"a":2}\n2 of 3 ids found\n', path=self.file(b"".join(inside)))
+        self.assertEqual(found, [f'{{"_id":{{"a":{{"$numberDouble":"{it}"}}}}}}' for it in (1.5, 2.0)])
+
+    def test_documents_like_values(self) -> None:
+        """Ids are the same by their bytes: a document is none that has the names of another value."""
+        like = [document(field(3, "_id", document(field(2, "$oid", text("07bd00000000000000000abc"))))), document(field(2, "_id", text("x")))]
+        path = self.file(b"".join(like))
+        self.assertEqual(self.ids(["07bd00000000000000000abc"], status=1, told="missing: 07bd00000000000000000abc\n0 of 1 ids found\n", path=path), [])
+        self.assertEqual(self.ids(['"x"'], status=0, told="1 of 1 ids found\n", path=path), ['{"_id":"x"}'])
+
+    def test_numbers_with_many_digits(self) -> None:
+        """More than any number has, and more than Python reads at once."""
+        for line in ("9" * 5000, '{"$numberInt":"%s"}' % ("9" * 5000), '{"$numberLong":"9223372036854775808"}', "1E+6000", "-1e999"):
+            self.ids([line], status=2, told=f"bsonkit: {self.room}/ids: line 1: number out of range\n")
+        for line in ('{"$numberDecimal":"1E+6000"}', '{"$numberDecimal":"%s"}' % ("9" * 34), "1." + "0" * 5000):
+            self.ids([line], status=1, told=f"missing: {line}\n0 of 1 ids found\n")
+
+    def test_documents_beside_damage(self) -> None:
+        """One that has a fault itself is not printed, and the fault has its place in the dump."""
+        bad = document(field(16, "_id", b"\7\0\0\0"), field(8, "d", b"\2"))
+        path = self.file(PEOPLE.read_bytes() + bad)
+        for words in ((), ("--bson",)):
+            self.list = self.file(b"7\n", "ids")
+            command = [sys.executable, "-m", "bsonfind", "--program", PROGRAM, "ids", str(path), "--ids", str(self.list), *words]
+            run = subprocess.run(command, env=environment(), capture_output=True)
+            fault = f'document 500, byte {path.stat().st_size - 2}, path "d": bad boolean'
+            self.assertEqual((run.returncode, run.stderr.decode()), (2, f"bsonkit: {path}: {fault}\n"))
+            self.assertNotIn(bad, run.stdout)
+
     def test_many_ids(self) -> None:
         """More than are asked for at once, and more than an argument holds."""
         oids = [json.loads(line)["_id"]["$oid"] for line in SHOP_LINES]
@@ -164,10 +200,10 @@ class AsksForIds(Room):
         os.mkfifo(pipe)
         writer = threading.Thread(target=pipe.write_bytes, args=[data])
         writer.start()
-        with mock.patch("bsonfind._backup.query.MOST_HELD", 20_000), mock.patch("bsonfind._backup.ids.MOST_HELD", 20_000):
+        with mock.patch("bsonfind._dumps.framing.LARGEST_INPUT", 20_000):
             for path in (PEOPLE, self.file(gzip.compress(data), "a.bson.gz"), pipe):
                 found: List[bytes] = []
-                missing = find_ids(str(path), Ids(["7", "600", "480", "241"], "ids"), PROGRAM, found.extend)
+                missing = find_ids(str(path), Ids(["7", "600", "480", "241"], "ids", PROGRAM), PROGRAM, found.extend)
                 self.assertEqual((missing, found), (["600"], [PEOPLE_LINES[number] + b"\n" for number in (7, 241, 480)]))
         writer.join()
 
@@ -183,14 +219,14 @@ class AsksForIds(Room):
         for path in (self.file(data), self.file(gzip.compress(data), "dump.bson.gz")):
             found = self.ids(ids, status=1, told="missing: 7.5\n6 of 7 ids found\n", path=path)
             self.assertEqual(sorted(found), sorted(lines))
-            with mock.patch("bsonfind._backup.ids.MOST_HELD", 20):
+            with mock.patch("bsonfind._dumps.framing.LARGEST_INPUT", 20):
                 found = []
-                self.assertEqual(find_ids(str(path), Ids(ids, "ids"), PROGRAM, found.extend), ["7.5"])
+                self.assertEqual(find_ids(str(path), Ids(ids, "ids", PROGRAM), PROGRAM, found.extend), ["7.5"])
             self.assertEqual([it.decode().strip() for it in found], lines)
 
     def test_bad_input(self) -> None:
         neither = "neither JSON nor 24 hexadecimal digits"
-        for line, problem in (("abc", neither), ('{"$regularExpression":{"pattern":"a","options":""}}', "not in the profile"), ("00", neither)):
+        for line, problem in (("abc", neither), ('{"$numberInt":"3000000000"}', "number out of range"), ('{"$numberDouble":"1.5x"}', "bad wrapper"), ('1,"a":2', neither), ("00", neither)):
             self.ids(["1", "", line], status=2, told=f"bsonkit: {self.room}/ids: line 3: {problem}\n")
         bad = self.file(PEOPLE.read_bytes() + DAMAGED, "bad.bson")
         half = self.file(gzip.compress(PEOPLE.read_bytes())[:-9], "half.bson.gz")

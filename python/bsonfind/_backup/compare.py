@@ -5,15 +5,14 @@ from __future__ import annotations
 import os
 from collections import Counter
 from hashlib import blake2b
-from typing import Callable, Iterable, Iterator, NamedTuple, Sequence
+from typing import Callable, Iterator, NamedTuple, Sequence
 
-from .._dumps.checking import checking, faults_of, finish_check
 from .._dumps.elements import value_at
 from .._dumps.files import is_whole_archive
-from .._dumps.framing import LONGEST, inputs, is_length
+from .._dumps.passing import each_document
 from .._dumps.printing import texts_of_values
-from .._dumps.sources import Input, Source
-from .._errors import BsonfindError, DumpError
+from .._dumps.sources import Source
+from .._errors import BsonfindError
 from .backups import dumps_below
 from .sorting import Sorter
 
@@ -205,35 +204,11 @@ def _one_alone(pair: Pair, program: str, say: Callable[[str], None]) -> Comparis
 
 def _each_document(name: str, program: str, take: Callable[[bytes], None]) -> int:
     """Has the documents of a dump checked as they pass on, and gives their number. What is wrong is raised with its name."""
-    documents = 0
     try:
         with Source(name) as source:
-            for offset, first, pieces in inputs(source.pieces()):
-                with checking(Input(offset, first, None, _taken(pieces, take)), program) as run:
-                    for fault in faults_of(run):
-                        moved = fault.moved(first, offset)
-                        raise DumpError(str(moved), moved)
-                    documents = first + finish_check(run)
+            return each_document(source, program, take)
     except (BsonfindError, OSError) as error:
         raise CompareError(f"{name}: {getattr(error, 'strerror', None) or error}") from None
-    return documents
-
-
-def _taken(pieces: Iterable[bytes], take: Callable[[bytes], None]) -> Iterator[bytes]:
-    """The pieces as they pass, whose documents are taken. After a wrong length, which is a fault, none is."""
-    rest, is_wrong = b"", False
-    for piece in pieces:
-        data = rest + piece if rest else piece
-        at, size = 0, len(data)
-        while not is_wrong and at + 4 <= size:
-            length = int.from_bytes(data[at : at + 4], "little")
-            is_wrong = not is_length(length, LONGEST)
-            if is_wrong or at + length > size:
-                break
-            take(data[at : at + length])
-            at += length
-        rest = b"" if is_wrong else data[at:]
-        yield piece
 
 
 def rows(done: Comparison, names: Sequence[str], path: str) -> list[tuple[str, int]]:

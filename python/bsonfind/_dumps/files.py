@@ -121,12 +121,6 @@ def not_opened(path: File, error: OSError) -> DumpError:
     return DumpError(f"cannot read {name}: it is a directory" if isinstance(error, IsADirectoryError) else f"cannot open {name}")
 
 
-def unpacked(path: File) -> Iterator[bytes]:
-    """The bytes of a dump that is packed, in pieces. One that is truncated, damaged or empty is a `DumpError`."""
-    with opened(path) as file:
-        yield from unpacked_of(path, pieces_of(file, path))
-
-
 def unpacked_of(path: File, pieces: Iterator[bytes]) -> Iterator[bytes]:
     """The bytes of a dump that is packed, out of the pieces of its file."""
     member = member_of(path)

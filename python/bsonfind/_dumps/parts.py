@@ -12,7 +12,7 @@ from .._errors import DumpError
 from .._faults import Fault
 from .._names import File, name_of
 from .._numbers import whole
-from .files import FileState, is_packed, member_of, opened, refuse_archive, unpacked
+from .files import FileState, is_packed, member_of, opened, pieces_of, refuse_archive, unpacked_of
 from .framing import LONGEST, SHORTEST, walk
 
 # What a part has at most where nothing else is asked for; a run of `find` holds its part in memory.
@@ -60,7 +60,7 @@ class Part:
     def _bytes_of(self, file: BinaryIO) -> Iterator[bytes]:
         """The bytes of the part, as many as the file has."""
         if is_packed(self.path):
-            yield from _between(unpacked(self.path), self.offset, self.offset + self.length)
+            yield from _between(unpacked_of(self.path, pieces_of(file, self.path)), self.offset, self.offset + self.length)
             return
         left = self.length
         file.seek(self.offset)
@@ -133,7 +133,7 @@ def _ends(name: str, file: BinaryIO) -> Iterator[int]:
     if not stat.S_ISREG(os.fstat(file.fileno()).st_mode):
         raise DumpError(f"{name} is no regular file")
     try:
-        yield from ends_in(unpacked(name)) if is_packed(name) else walk(file)
+        yield from ends_in(unpacked_of(name, pieces_of(file, name))) if is_packed(name) else walk(file)
     except OSError as error:
         raise DumpError(f"cannot read {name}: {error.strerror}") from error
 

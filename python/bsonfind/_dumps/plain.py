@@ -6,6 +6,7 @@ import re
 import struct
 from typing import Iterator
 
+from .elements import value_end
 from .framing import LONGEST, SHORTEST
 from .parts import Part, PartError
 
@@ -15,8 +16,7 @@ _WRAPPERS = re.compile(
     rb"|scope|symbol|timestamp|undefined|uuid)\0"
 )
 _length_at = struct.Struct("<i").unpack_from
-# The bytes of a value by its type, where they are always as many.
-_SIZES = {1: 8, 6: 0, 7: 12, 8: 1, 9: 8, 10: 0, 16: 4, 17: 8, 18: 8, 19: 16, 127: 0, 255: 0}
+_DOCUMENT, _ARRAY, _SCOPED = 0x03, 0x04, 0x0F
 
 
 def plain_pieces(part: Part) -> Iterator[bytes]:
@@ -76,21 +76,13 @@ def _first_names(document: bytes) -> Iterator[int]:
         if kind == 0:
             continue  # the end of a document or an array
         at = document.find(b"\0", at) + 1 or len(document)
-        if kind in (3, 4):
+        if kind in (_DOCUMENT, _ARRAY):
             at += 4
-        elif kind == 15:
+        elif kind == _SCOPED:
             at += 12 + _number(document, at + 4)
-        elif kind in (2, 13, 14):
-            at += 4 + _number(document, at)
-        elif kind == 5:
-            at += 5 + _number(document, at)
-        elif kind == 11:
-            at = document.find(b"\0", document.find(b"\0", at) + 1) + 1 or len(document)
-        elif kind == 12:
-            at += 16 + _number(document, at)
         else:
-            at += _SIZES.get(kind, len(document))
-        if kind in (3, 15):
+            at = value_end(document, kind, at) or len(document)
+        if kind in (_DOCUMENT, _SCOPED):
             yield at + 1
 
 
