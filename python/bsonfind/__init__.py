@@ -6,7 +6,7 @@
         for person in session.find({"age": {"$gte": 90}}, sort=[("name", 1)]):
             print(person["name"])
 
-`find`, `find_one` and `count_documents` answer one request by one run, a `Session` many of one dump, and an `AsyncSession` does
+`find`, `find_one`, `count_documents`, `distinct` and `explain` answer one request by one run, a `Session` many of one dump, and an `AsyncSession` does
 for asyncio. `plan` splits a dump of any size into parts, of which `find_parts`, `count_parts` and `check_parts` make one answer.
 `audit` checks the dumps of a backup, and `salvage` copies what is good of a damaged one. `unpack` writes the collections of an
 archive to files; where a file is named, "ARCHIVE::db.collection" names one of them. `python3 -m bsonfind` has these and other
@@ -19,7 +19,14 @@ from __future__ import annotations
 TYPE_CHECKING = False
 if TYPE_CHECKING:
     from ._ask.aio import AsyncCursor as AsyncCursor, AsyncSession as AsyncSession
-    from ._ask.answers import Answer as Answer, count_documents as count_documents, find as find, find_one as find_one
+    from ._ask.answers import (
+        Answer as Answer,
+        count_documents as count_documents,
+        distinct as distinct,
+        explain as explain,
+        find as find,
+        find_one as find_one,
+    )
     from ._ask.copies import prepare as prepare
     from ._ask.merge import Check as Check, check_parts as check_parts, count_parts as count_parts, find_parts as find_parts
     from ._ask.sessions import Cursor as Cursor, Session as Session
@@ -52,7 +59,7 @@ if TYPE_CHECKING:
 # more than it needs.
 _MODULES = {
     "_ask.aio": ["AsyncCursor", "AsyncSession"],
-    "_ask.answers": ["Answer", "count_documents", "find", "find_one"],
+    "_ask.answers": ["Answer", "count_documents", "distinct", "explain", "find", "find_one"],
     "_ask.copies": ["prepare"],
     "_ask.merge": ["Check", "check_parts", "count_parts", "find_parts"],
     "_ask.sessions": ["Cursor", "Session"],
@@ -65,29 +72,19 @@ _MODULES = {
     "_dumps.gzip": ["UnpackError"],
     "_dumps.parts": ["Part", "PartError", "plan"],
     "_errors": [
-        "ArgumentError",
-        "BsonfindError",
-        "CancelledError",
-        "CommandError",
-        "CursorStateError",
-        "DumpError",
-        "FileError",
-        "OtherProcessError",
-        "ProgramError",
-        "SessionEndedError",
-        "TimedOutError",
+        "ArgumentError", "BsonfindError", "CancelledError", "CommandError", "CursorStateError", "DumpError", "FileError",
+        "OtherProcessError", "ProgramError", "SessionEndedError", "TimedOutError",
     ],
     "_faults": ["Fault"],
-}
+}  # fmt: skip
 _WHERE = {name: module for module, names in _MODULES.items() for name in names}
 
 
 def __getattr__(name: str) -> object:
     """Return what is exported by a name, or the version, which a file beside the modules has, also in a zip."""
     if name == "__version__":
-        import pkgutil
-
-        value: object = (pkgutil.get_data(__name__, "VERSION") or b"").decode("ascii").strip()
+        # The loader reads it, as `pkgutil` does, which takes longer to import than all that is here.
+        value: object = __spec__.loader.get_data(f"{__path__[0]}/VERSION").decode("ascii").strip()  # type: ignore
     elif name in _WHERE:
         from importlib import import_module
 
@@ -104,44 +101,9 @@ def __dir__() -> list[str]:
 
 
 __all__ = [
-    "Answer",
-    "ArgumentError",
-    "AsyncCursor",
-    "AsyncSession",
-    "Audit",
-    "BsonfindError",
-    "CancelledError",
-    "Check",
-    "Collection",
-    "CommandError",
-    "Cursor",
-    "CursorStateError",
-    "DumpError",
-    "Fault",
-    "FileError",
-    "FileState",
-    "LeftOut",
-    "ObjectId",
-    "OtherProcessError",
-    "Part",
-    "PartError",
-    "ProgramError",
-    "Report",
-    "Salvaged",
-    "Session",
-    "SessionEndedError",
-    "TimedOutError",
-    "UnpackError",
-    "Unpacked",
-    "audit",
-    "check_parts",
-    "count_documents",
-    "count_parts",
-    "find",
-    "find_one",
-    "find_parts",
-    "plan",
-    "prepare",
-    "salvage",
-    "unpack",
-]
+    "Answer", "ArgumentError", "AsyncCursor", "AsyncSession", "Audit", "BsonfindError", "CancelledError", "Check", "Collection",
+    "CommandError", "Cursor", "CursorStateError", "DumpError", "Fault", "FileError", "FileState", "LeftOut", "ObjectId",
+    "OtherProcessError", "Part", "PartError", "ProgramError", "Report", "Salvaged", "Session", "SessionEndedError", "TimedOutError",
+    "UnpackError", "Unpacked", "audit", "check_parts", "count_documents", "count_parts", "distinct", "explain", "find", "find_one",
+    "find_parts", "plan", "prepare", "salvage", "unpack",
+]  # fmt: skip

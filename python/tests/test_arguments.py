@@ -23,6 +23,8 @@ from bsonfind import (
     check_parts,
     count_documents,
     count_parts,
+    distinct,
+    explain,
     find,
     find_one,
     find_parts,
@@ -63,10 +65,13 @@ BAD: Dict[str, List[Any]] = {
     **dict.fromkeys(("sparse", "with_crc"), [object(), "yes"]),
     "only": [5, "shop.orders", [], [5]],
     "digits": [5, "5", "g" * 24],
+    "key": [5, None, "", ["a"]],
 }
 # Parameters of which one value is as good as another: the part keeps what plan noted of its file.
 FREE = ("self", "state")
 PATHS = {"create_index": {"path": "age"}, "drop_index": {"path": "age"}}
+NEEDED = {**PATHS, "distinct": {"key": "age"}}
+METHODS = ("find_one", "count_documents", "distinct", "create_index", "drop_index", "explain")
 
 
 async def awaited(session: AsyncSession, method: str, *words: Any, **options: Any) -> Any:
@@ -80,7 +85,8 @@ class Refusals(Room):
         """Each public call, and what does it with all that it needs but one argument."""
         parts, program = plan(PEOPLE), {"program": PROGRAM}
         yield find, lambda path=PEOPLE, **it: list(find(path, **{**program, **it}))
-        for ask in (find_one, count_documents):
+        yield distinct, lambda path=PEOPLE, key="age", **it: distinct(path, key, **{**program, **it})
+        for ask in (find_one, count_documents, explain):
             yield ask, lambda path=PEOPLE, ask=ask, **it: ask(path, **{**program, **it})
         for ask in (find_parts, count_parts, check_parts):
             yield ask, lambda parts=parts, ask=ask, **it: ask(parts, **{**program, **it})
@@ -96,13 +102,13 @@ class Refusals(Room):
         yield AsyncSession, lambda path=PEOPLE, **it: asyncio.run(AsyncSession(path, **{**program, **it}).open())
         with Session(PEOPLE, PROGRAM) as session:
             yield Session.find, lambda **it: list(session.find(**it))
-            for method in ("find_one", "count_documents", "create_index", "drop_index", "explain"):
-                yield getattr(Session, method), partial(getattr(session, method), **PATHS.get(method, {}))
+            for method in METHODS:
+                yield getattr(Session, method), partial(getattr(session, method), **NEEDED.get(method, {}))
         loop = asyncio.new_event_loop()
         try:
             session = loop.run_until_complete(AsyncSession(PEOPLE, PROGRAM).open())
-            for method in ("find", "find_one", "count_documents", "create_index", "drop_index", "explain"):
-                ask = partial(awaited, session, method, **PATHS.get(method, {}))
+            for method in ("find", *METHODS):
+                ask = partial(awaited, session, method, **NEEDED.get(method, {}))
                 yield getattr(AsyncSession, method), lambda ask=ask, **it: loop.run_until_complete(ask(**it))
             loop.run_until_complete(session.close())
         finally:

@@ -132,11 +132,13 @@ class AsyncSessions(Room, unittest.IsolatedAsyncioTestCase):
         with self.assertRaises(TimedOutError):
             await AsyncSession(PEOPLE, self.script("exec sleep 600"), timeout=0.3).open()
         session = await AsyncSession(PEOPLE, self.script(STUCK), timeout=0.5).open()
+        self.addAsyncCleanup(session.close)
         with self.assertRaises(TimedOutError):
             await session.count_documents()
         with self.assertRaisesRegex(SessionEndedError, "no answer within 0.5 seconds"):
             await session.count_documents()
         session = await AsyncSession(PEOPLE, self.script(STUCK)).open()
+        self.addAsyncCleanup(session.close)
         asyncio.get_running_loop().call_later(0.3, session.cancel)
         with self.assertRaises(CancelledError):
             await session.count_documents()

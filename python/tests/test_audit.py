@@ -181,7 +181,7 @@ class Audits(Room):
         self.assertEqual(lines[6:8], miscounted)
         rows = ("files", 5), ("documents", 2200), ("faulty", 0), ("other counts than expected", 2), ("without metadata", 1)
         self.assertEqual(lines[8:], self.table(*rows))
-        self.assertEqual(len(self.starts()), 1 + 2)
+        self.assertEqual(len(self.starts()), 2)
         # The faults of a file are those of each of its names.
         self.orders.write_bytes(SHOP.read_bytes() + DAMAGED)
         (line,) = self.audit(str(shop), "--json", status=1)
@@ -400,7 +400,7 @@ class Audits(Room):
                 faults = [{name: it[name] for name in fault} for it in report.as_json()["faults"]]
                 self.assertEqual((report.documents, report.error, faults), (documents, None, [fault]))
             # One run says whether the program is there; each file has one for each 30,000 bytes, and that with the wrong length.
-            self.assertEqual(len(self.starts()), 1 + 3 * (4 if data is whole else 3))
+            self.assertEqual(len(self.starts()), 3 * (4 if data is whole else 3))
             (self.room / "starts").unlink()
 
     def test_expected_counts(self) -> None:

@@ -553,6 +553,19 @@ class AsyncFinds(Goods, unittest.IsolatedAsyncioTestCase):
             self.assertEqual(await session.count_documents({"age": {"$gt": 98.5}}), 5)
             self.assertEqual(await session.count_documents({"age": {"$gt": 98}}), 5)
 
+    async def test_pipes_and_copies(self) -> None:
+        """A pipe with doubles, and a copy by `prepare`."""
+        pipe, copy = self.room / "pipe", self.room / "copy"
+        os.mkfifo(pipe)
+        writer = threading.Thread(target=pipe.write_bytes, args=[b"".join(GOODS)])
+        writer.start()
+        async with AsyncSession(pipe, PROGRAM) as session:
+            self.assertEqual(await session.count_documents({"price": {"$gt": 9.25}}), 3)
+        writer.join()
+        prepare(self.path, copy, program=PROGRAM)
+        async with AsyncSession(self.path, PROGRAM, copy=copy) as session:
+            self.assertEqual(await session.count_documents({"price": {"$gt": 9.25}}), 3)
+
     async def test_call_that_is_cancelled(self) -> None:
         """While documents of the dump are read in place of those of the copy: the next call gives them."""
         async with AsyncSession(self.path, PROGRAM) as session:

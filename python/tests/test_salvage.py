@@ -364,7 +364,7 @@ class BadInput(Room):
     def test_file_that_shrinks(self) -> None:
         """It does so when the program is tried, after its size was read."""
         path = self.file(PEOPLE.read_bytes())
-        program = self.wide(f"truncate -s 39978 {path}\nexec \"$WIDE\" \"$@\"")
+        program = self.wide(f"# also for --version\ntruncate -s 39978 {path}\nexec \"$WIDE\" \"$@\"")
         told = f"{path}: no bytes at byte 39978: the file became shorter"
         self.refused("--program", program, "salvage", str(path), "--good", "/dev/null", "--bad", "/dev/null", told=told)
 
@@ -399,6 +399,6 @@ class BadInput(Room):
 
     def test_interrupt(self) -> None:
         path = str(self.file(PEOPLE.read_bytes()))
-        program = self.wide('echo $$ >>"$ROOM/pids"\nexec sleep 600')
+        program = self.wide('# also for --version\necho $$ >>"$ROOM/pids"\nexec sleep 600')
         words = ["--program", program, "salvage", path, "--good", "/dev/null", "--bad", "/dev/null"]
         self.assertEqual(self.interrupt(f"import sys\nfrom bsonfind.__main__ import main\nsys.exit(main({words!r}))", 1), 130)

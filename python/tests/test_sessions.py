@@ -223,6 +223,7 @@ class Endings(Room):
     def test_program_that_is_killed(self) -> None:
         pids = self.room / "pid"
         session = Session(PEOPLE, self.script('echo $$ >"$ROOM/pid"\nexec "$PROGRAM" "$@"'))
+        self.addCleanup(session.close)
         os.kill(int(pids.read_text()), signal.SIGKILL)
         with self.assertRaises(SessionEndedError) as raised:
             session.find()
@@ -234,6 +235,7 @@ class Endings(Room):
         refusal = '{"ok":false,"layer":"session","number":{"$numberInt":"6"},"text":"no such cursor"}'
         cut = "printf '{\"ok\":tr'\necho 'bsonfind: no memory' >&2\nexit 1"
         session = Session(PEOPLE, self.script(f"read line\necho '{refusal}'\nread line\n{cut}"))
+        self.addCleanup(session.close)
         with self.assertRaises(SessionEndedError) as raised:
             session.find()
         self.assertEqual(str(raised.exception), "no memory")

@@ -27,7 +27,7 @@ from bsonfind import (
     find_parts,
     plan,
 )
-from bsonfind._ask import connections as _connections, steps as _steps
+from bsonfind._ask import steps as _steps
 
 from .support import DOUBLE, PATIENCE, PEOPLE, PEOPLE_LINES, PROGRAM, Room, environment, packed, wait_for
 
@@ -183,7 +183,7 @@ class Interrupts(Room):
         self.addCleanup(session.close)
         cursor = session.find(batch_size=40, decode="bytes")
         found = [next(cursor) for _ in range(40)]
-        interrupt = mock.patch.object(_connections.Connection, "_receive", side_effect=KeyboardInterrupt)
+        interrupt = mock.patch("bsonfind._ask.plans.receive", side_effect=KeyboardInterrupt)
         with interrupt, self.assertRaises(KeyboardInterrupt):
             next(cursor)
         for _ in range(2):
@@ -296,6 +296,7 @@ class LongQuestions(Room):
     def test_timeout_of_a_command(self) -> None:
         program = self.script('read line\necho \'{"ok":true}\'\nexec sleep 600')
         session = Session(PEOPLE, program, timeout=0.5)
+        self.addCleanup(session.close)
         with self.assertRaises(TimedOutError):
             session.find()
         with self.assertRaisesRegex(SessionEndedError, "no answer within 0.5 seconds"):
@@ -322,6 +323,7 @@ class LongQuestions(Room):
 
     def test_cancelled_session(self) -> None:
         session = Session(PEOPLE, self.script('read line\necho \'{"ok":true}\'\nexec sleep 600'))
+        self.addCleanup(session.close)
         threading.Timer(0.3, session.cancel).start()
         with self.assertRaises(CancelledError):
             session.count_documents()

@@ -2,17 +2,22 @@
 
 from __future__ import annotations
 
-import asyncio
-from typing import Any, AsyncIterator, Awaitable, Callable, TypeVar, overload
+import os
+from functools import partial
+from typing import Any, AsyncIterator, Awaitable, Callable, ContextManager, TypeVar, overload
 
-from .._errors import CancelledError
-from .._names import File
+from .._errors import CancelledError, SessionEndedError
+from .._names import File, name_of_file
+from .._numbers import seconds
+from .._run.processes import Group, check_owner
 from . import steps
-from .aio_connection import AsyncConnection
-from .aio_questions import AsyncAsked, AsyncQuestions
-from .decoding import Decode, Dicts, Raw, Texts, decoder, with_uuids
+from .decoding import Decode, Dicts, Raw, with_uuids
+from .distinct import Distinct, Values
+from .loops import Loop, in_thread
+from .plans import Plan
+from .questions import Answering, Questions
 from .requests import Filter, Request, Sort
-from .steps import Hint, Reading, Use, use_of
+from .steps import Hint, use_of
 from .values import Uuids, uuids_of
 
 T = TypeVar("T")
@@ -22,20 +27,65 @@ class AsyncSession:
     """A session whose calls are awaited: `async with AsyncSession("people.bson") as session`.
 
     Tasks may share a session, and a cursor belongs to one task at a time. A call that is cancelled in the middle of a reply
-    ends the session. Otherwise it is a `Session`: a dump that is refused is a `DumpError` at once, and so on. A copy of a dump with
-    doubles is written by a thread, and so are documents in place of those of a copy. A pipe with such a dump is refused.
+    ends the session. Otherwise it is a `Session`: a dump that is refused is a `DumpError` at once, and so on. A thread waits while the
+    dump is read, and while a copy of a dump with doubles is written.
     """
 
     def __init__(
-        self, path: File, program: str = "bsonfind", *, timeout: float | None = None, uuid_representation: Uuids = "standard"
+        self,
+        path: File,
+        program: str = "bsonfind",
+        *,
+        timeout: float | None = None,
+        copy: File | None = None,
+        uuid_representation: Uuids = "standard",
     ) -> None:
-        self._uuids = uuids_of(uuid_representation)
-        self._questions = AsyncQuestions(path, program, timeout)
+        self._uuids, self._owner = uuids_of(uuid_representation), os.getpid()
+        self._group, self._loop = Group(), Loop()
+        self._timeout = seconds(timeout)
+        self._open = partial(Questions, name_of_file(path), program, self._timeout, copy, self._group)
+        self._questions: Questions | None = None
 
     async def open(self) -> AsyncSession:
         """Starts the program, and waits until the dump is read."""
-        await self._questions.open()
+        self._check()
+        if self._questions is None or self._group.is_ended:
+            self._refuse_ended()
+            try:
+                self._questions = await in_thread(self._opened)
+            except BaseException:
+                self._group.end(SessionEndedError("the dump was not read"))
+                raise
         return self
+
+    def _opened(self) -> Questions:
+        """The questions, if the session was not ended meanwhile."""
+        questions = self._open()
+        if self._group.is_ended:
+            questions.close()
+            raise self._group.error or SessionEndedError("the session was closed")
+        return questions
+
+    def _check(self) -> None:
+        """Refuses a call in another process than the one that made the session."""
+        check_owner(self._owner)
+
+    def _in_time(self) -> ContextManager[None]:
+        """Has the session end where a question takes longer than its seconds."""
+        return self._group.within(self._timeout)
+
+    def _refuse_ended(self) -> None:
+        if self._group.is_ended:
+            raise SessionEndedError(str(self._group.error))
+
+    async def _do(self, plan_of: Callable[[Questions], Plan[T]]) -> T:
+        """Carries out what is asked."""
+        self._check()
+        if self._questions is None:
+            self._refuse_ended()
+            raise SessionEndedError("the session was not opened")
+        with self._in_time():
+            return await self._loop.do(plan_of(self._questions))
 
     # fmt: off
     @overload
@@ -81,8 +131,7 @@ class AsyncSession:
         decode: Decode[Any],
     ) -> AsyncCursor[Any]:
         request = Request.of(filter, sort, skip, limit, self._uuids)
-        how = use_of(hint), batch_size, after, with_uuids(decode, self._uuids)
-        return AsyncCursor(self._questions, request, how, Reading(request, *how))
+        return AsyncCursor(self, Answering(request, use_of(hint), batch_size, after, with_uuids(decode, self._uuids)))
 
     # fmt: off
     @overload
@@ -111,22 +160,32 @@ class AsyncSession:
         decode: Decode[Any] = "plain",
     ) -> Any:
         """The first document of an answer, None if it has none."""
-        async with self._cursor(filter, sort, skip, 1, 100, hint, None, decode) as cursor:
-            async for document in cursor:
-                return document
+        with self._in_time():
+            async with self._cursor(filter, sort, skip, 1, 100, hint, None, decode) as cursor:
+                async for document in cursor:
+                    return document
         return None
 
     async def count_documents(self, filter: Filter | None = None) -> int:
         """How many documents match."""
-        return await self._questions.do(steps.count, Request.of(filter, uuids=self._uuids))
+        request = Request.of(filter, uuids=self._uuids)
+        return await self._do(lambda it: it.ask(steps.count, request))
+
+    async def distinct(self, key: str, filter: Filter | None = None, *, decode: Values = "plain") -> list[Any]:
+        """The values of a field in the documents that match, each once: of an array each element, and numbers by their values."""
+        distinct = Distinct(key, decode, self._uuids)
+        with self._in_time():
+            async for document in self.find(filter, decode="canonical"):
+                distinct.add(document)
+        return distinct.values()
 
     async def create_index(self, path: str, sparse: bool = False) -> dict[str, Any]:
         """Makes an index on a path: how many `entries` it has, and whether a document has more than one (`multikey`)."""
-        return await self._questions.create_index(path, sparse)
+        return await self._do(lambda it: it.create_index(path, sparse))
 
     async def drop_index(self, path: str) -> None:
         """Drops the index on a path; cursors that were opened by it give the same."""
-        await self._questions.drop_index(path)
+        await self._do(lambda it: it.drop_index(path))
 
     async def explain(
         self,
@@ -139,15 +198,20 @@ class AsyncSession:
     ) -> dict[str, Any]:
         """How an answer is found: the `plan`, the path of the `index`, and how many `entries`, `documents` and `matches`."""
         request = Request.of(filter, sort, skip, limit, self._uuids)
-        return await self._questions.do(steps.explain, request, use_of(hint))
+        return await self._do(lambda it: it.ask(steps.explain, request, use_of(hint)))
 
     def cancel(self) -> None:
         """Ends the session at once: a call that waits for a reply gets a `CancelledError` of this package."""
-        self._questions.stop(CancelledError("cancelled"))
+        self._check()
+        self._group.end(CancelledError("cancelled"))
 
     async def close(self) -> None:
         """Ends the session."""
-        await self._questions.close()
+        self._check()
+        self._group.end(SessionEndedError("the session was closed"))
+        if self._questions:
+            async with self._loop.lock:
+                await in_thread(self._questions.close)
 
     async def __aenter__(self) -> AsyncSession:
         return await self.open()
@@ -159,78 +223,33 @@ class AsyncSession:
 class AsyncCursor(AsyncIterator[T]):
     """The documents of an answer, which are asked for a batch at a time. It keeps what it read as a `Cursor` does."""
 
-    def __init__(
-        self, questions: AsyncQuestions, request: Request, how: tuple[Use, int, str | None, Decode[T]], reading: Reading[T]
-    ) -> None:
-        self._questions, self._request, self._how, self._reading = questions, request, how, reading
-        # Known from the first document on.
-        self._asked: AsyncAsked | None = None
-        # The documents that are in place of those of a copy.
-        self._given: Texts[Any] | None = None
-        self._is_closed = False
+    def __init__(self, session: AsyncSession, answering: Answering) -> None:
+        self._session, self._answering = session, answering
 
     async def __anext__(self) -> T:
-        self._questions.check()
-        connection = await self._open()
-        documents = await self._documents()
-        while not documents.left and not self._reading.is_at_end and not self._is_closed:
-            connection.check_open()
-            await connection.do(self._reading.read_on())
-            documents = await self._documents()
-        if self._is_closed or not documents.left:
+        self._session._check()
+        answering = self._answering
+        if not answering.reading.held.documents.left and not answering.is_at_end:
+            await self._session._do(answering.read_on)
+        documents = answering.reading.held.documents
+        if answering.is_closed or not documents.left:
             raise StopAsyncIteration
         document: T = documents.give()
         return document
 
-    async def _open(self) -> AsyncConnection:
-        """The connection by which it is asked."""
-        if self._asked is None:
-            use, batch_size, after, decode = self._how
-            asked = await self._questions.asked(self._request, decode == "bson")
-            if asked.original:
-                self._reading = Reading(asked.request, use, batch_size, after, "bytes")
-                with asked.places():
-                    await asked.connection.do(self._reading.start())
-            self._asked = asked
-        return self._asked.connection
-
-    async def _documents(self) -> Any:
-        """The documents that were read; those of a copy are replaced by those of the dump."""
-        held = self._reading.held
-        original = self._asked.original if self._asked else None
-        if original is None or held.documents is self._given or not held.documents.left:
-            return held.documents
-        texts, decode = held.documents, self._how[3]
-        assert isinstance(texts, Texts)
-        lines = await asyncio.get_running_loop().run_in_executor(None, original, texts.texts, decode == "bson")
-        self._given = Texts(lines, decoder(decode))
-        self._reading.held = held._replace(documents=self._given)
-        return self._given
-
     @property
     def token(self) -> Awaitable[str | None]:
         """The token that leads on to what follows the documents that were given, which is awaited; None if none was."""
-        return self._token()
-
-    async def _token(self) -> str | None:
-        connection = await self._open()
-        return await connection.do(self._reading.token())
+        return self._session._do(self._answering.token)
 
     async def explain(self) -> dict[str, Any]:
         """How the answer is found, as `AsyncSession.explain` says it."""
-        connection = await self._open()
-        return await connection.do(self._reading.explain())
+        return await self._session._do(self._answering.explain)
 
     async def close(self) -> None:
         """Closes the cursor: no document follows. Its token stays."""
-        self._questions.check()
-        self._is_closed = True
-        self._leave()
-
-    def _leave(self) -> None:
-        number, self._reading.number = self._reading.number, None
-        if number is not None and self._asked:
-            self._asked.connection.leave(number)
+        self._session._check()
+        self._answering.close()
 
     async def __aenter__(self) -> AsyncCursor[T]:
         return self
@@ -239,4 +258,4 @@ class AsyncCursor(AsyncIterator[T]):
         await self.close()
 
     def __del__(self) -> None:
-        self._leave()
+        self._answering.leave()

@@ -5,14 +5,17 @@ from __future__ import annotations
 import os
 from typing import Any, Callable, Iterator, TypeVar, overload
 
-from .._errors import CancelledError, CursorStateError
+from .._errors import ArgumentError, CancelledError, CursorStateError
 from .._names import File, name_of
 from .._numbers import seconds, whole
 from .._run.processes import Group, check_owner
 from . import steps
-from .copies import AnyLines, Questions
+from .copies import AnyLines
 from .decoding import Decode, Dicts, Raw, Texts, decoder, with_uuids
+from .distinct import Distinct, Values
 from .lines import Lines
+from .plans import now
+from .questions import Questions
 from .requests import Filter, Request, Sort
 from .values import Uuids
 
@@ -183,5 +186,46 @@ def count_documents(
 ) -> int:
     """How many documents of a dump match."""
     request = Request.of(filter, uuids=uuid_representation)
-    with Questions(path, program, timeout) as questions:
-        return questions.do(steps.count, request)
+    group = Group()
+    with group.within(seconds(timeout)), Questions(path, program, group=group) as questions:
+        return now(questions.ask(steps.count, request))
+
+
+def distinct(
+    path: File,
+    key: str,
+    filter: Filter | None = None,
+    *,
+    decode: Values = "plain",
+    uuid_representation: Uuids = "standard",
+    program: str = "bsonfind",
+    timeout: float | None = None,
+) -> list[Any]:
+    """The values of a field in the documents of a dump that match, each once: of an array each element, and numbers by their values."""
+    found = Distinct(key, decode, uuid_representation)
+    with find(path, filter, decode="canonical", uuid_representation=uuid_representation, program=program, timeout=timeout) as answer:
+        for document in answer:
+            found.add(document)
+    return found.values()
+
+
+def explain(
+    path: File,
+    filter: Filter | None = None,
+    *,
+    sort: Sort | None = None,
+    skip: int = 0,
+    limit: int = 0,
+    index: str | None = None,
+    uuid_representation: Uuids = "standard",
+    program: str = "bsonfind",
+    timeout: float | None = None,
+) -> dict[str, Any]:
+    """How `find` finds its answer, as `Session.explain` says it; `index` makes an index on a path first."""
+    request, group = Request.of(filter, sort, skip, limit, uuid_representation), Group()
+    if isinstance(index, str) and "\0" in index:
+        raise ArgumentError(f"a path has no zero byte: {index!r}")
+    with group.within(seconds(timeout)), Questions(path, program, group=group) as questions:
+        if index is not None:
+            now(questions.create_index(index, False))
+        return now(questions.ask(steps.explain, request, "auto"))

@@ -16,23 +16,18 @@ from fractions import Fraction
 from functools import lru_cache, partial
 from itertools import takewhile
 from json.decoder import scanstring  # type: ignore[attr-defined]
-from math import isfinite
-from typing import Callable, Iterable, NamedTuple, Sequence, Union
+from typing import Callable, Iterable, NamedTuple, Sequence
 
+from .._dumps.numbers import Value
 from .._errors import CommandError
+from .values import WRAPPERS
 
-Value = Union[Fraction, Decimal]
 # What is done with the numbers of a path: their codes, or, by a level above 0, the product with that power of ten.
 CODE, MOST_LEVEL = 0, 18
 _INT64 = range(-(1 << 63), 1 << 63)
 _NAN_CODE = -(1 << 63)
 _LOGICAL = ("$and", "$or", "$nor")
 _VALUES, _LISTS = ("$eq", "$ne", "$gt", "$gte", "$lt", "$lte"), ("$in", "$nin", "$all")
-# The names that begin an object which stands for another value.
-_WRAPPERS = (
-    "$binary", "$code", "$date", "$dbPointer", "$maxKey", "$minKey", "$numberDecimal", "$numberDouble", "$numberInt",
-    "$numberLong", "$oid", "$regularExpression", "$scope", "$symbol", "$timestamp", "$undefined", "$uuid",
-)  # fmt: skip
 _NUMBER = re.compile(r"-?(?:0|[1-9][0-9]*)(\.[0-9]+)?([eE][+-]?[0-9]+)?")
 _WHOLE_TEXT = re.compile(r"-?[0-9]+")
 _FLOAT_TEXT = re.compile(r"[+-]?(?:[0-9]+\.?[0-9]*|\.[0-9]+)(?:[eE][+-]?[0-9]+)?")
@@ -42,10 +37,6 @@ _SPACE = re.compile(r"[ \t\n\r]*")
 _TYPES = {"double": 1, "int": 16, "long": 18, "decimal": 19}
 # A quick look for what may be a number that the program does not take.
 _MAY_BE_WIDE = re.compile(r"\$numberD|[0-9][.eE]")
-# The types of numbers in a dump, with how many bytes each has, and the bits of the digits of a decimal128.
-_DOUBLE, _DECIMAL = 0x01, 0x13
-_SIZES = {_DOUBLE: 8, 0x10: 4, 0x12: 8, _DECIMAL: 16}
-_DIGITS = (1 << 113) - 1
 # A path of `order` that ends so names a factor.
 _LIKE_A_FACTOR = re.compile(r"\*10{0,18}$")
 # Of one path with many numeric names there are more readings than are asked for.
@@ -180,30 +171,6 @@ def _wrapped_value(name: str, text: str) -> Value | None:
         least, most = int(power), int(power) + len(shown) - len(short)
         return Fraction(Decimal(text)) if not short or (len(short) <= 34 and most >= -6176 and least + len(shown) <= 6145) else None
     return None
-
-
-def number_in(field: bytes) -> Value | None:
-    """The value of a number of a dump, whose field these bytes begin with; None where there is none."""
-    at = field.find(b"\0", 1) + 1
-    size = _SIZES.get(field[0], 0) if at else 0
-    data = field[at : at + size]
-    if not size or len(data) < size:
-        return None
-    if field[0] == _DOUBLE:
-        (double,) = struct.unpack("<d", data)
-        return Fraction(double) if isfinite(double) else Decimal(double)
-    bits = int.from_bytes(data, "little", signed=True)
-    return _decimal_of(bits) if field[0] == _DECIMAL else Fraction(bits)
-
-
-def _decimal_of(bits: int) -> Value:
-    """The value of a decimal128; one with too many digits is zero."""
-    sign = "-" if bits < 0 else ""
-    if bits >> 123 & 0b1111 == 0b1111:
-        return Decimal("NaN" if bits >> 122 & 1 else f"{sign}Infinity")
-    has_few_digits = bits >> 125 & 0b11 != 0b11 and bits & _DIGITS < 10**34
-    digits, power = (bits & _DIGITS, (bits >> 113 & 0x3FFF) - 6176) if has_few_digits else (0, 0)
-    return Fraction(f"{sign}{digits}") * Fraction(10) ** power
 
 
 def code(value: Value) -> int | None:
@@ -563,4 +530,4 @@ def _has_operators(node: Node) -> bool:
 
 
 def _is_wrapper(node: Node) -> bool:
-    return node.pairs[:1] != () and node.pairs[0][0] in _WRAPPERS
+    return node.pairs[:1] != () and node.pairs[0][0] in WRAPPERS

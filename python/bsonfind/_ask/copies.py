@@ -24,30 +24,28 @@ from contextlib import ExitStack, closing, contextmanager
 from dataclasses import asdict, dataclass, field, replace
 from itertools import islice
 from pathlib import Path
-from typing import Any, BinaryIO, Callable, ContextManager, Iterable, Iterator, NamedTuple, Sequence, TypeVar
+from typing import BinaryIO, Callable, Iterable, Iterator, Sequence
 
 from .._dumps import framing
 from .._dumps.checking import NOT_READ, begins_wide, checking, faults_of, finish_check, is_wide
 from .._dumps.files import FileState
+from .._dumps.numbers import Value, number_in
 from .._dumps.outputs import Output, refuse_names
 from .._dumps.printing import Batches, finish_dump, lines_of, refuse_other_count
 from .._dumps.sources import Input, Source, up_to_error
-from .._errors import ArgumentError, CancelledError, CommandError, DumpError, ProgramError
+from .._errors import ArgumentError, CommandError, DumpError, ProgramError
 from .._names import File, name_of, name_of_file
 from .._run.messages import error_of
 from .._run.processes import Dump, Group, Run
-from .._run.program import wide_beside
+from .._run.wide import wide_program
 from . import steps
-from .codes import Probe, Query, Value, level_after, number_in, read_json, read_query, refused, word_of
+from .codes import Probe, Query, level_after, read_json, read_query, refused, word_of
 from .connections import Connection
-from .decoding import Decode, Texts, decoder
 from .hiding import hide
 from .lines import Lines, counted
-from .replies import documents_in
+from .plans import Plan, now
 from .requests import Request
-from .steps import Steps
 
-T = TypeVar("T")
 _REFUSED = re.compile(r'document (\d+), byte (\d+), path (".*"): (?:not a whole number of 64 bits|no double equals it)')
 # The number of a document at the start of its line.
 _NUMBERED = re.compile(rb'\{"~n":\{"\$numberLong":"([0-9]+)"\}')
@@ -110,7 +108,7 @@ class Original:
         if not numbers:
             return []
         documents = self.documents(numbers)
-        with Run([wide_beside(program), "dump", "-"], documents, group=group) as run:
+        with Run([wide_program(program, group), "dump", "-"], documents, group=group) as run:
             lines = [line for batch in lines_of(run.stdout) for line in batch]
             try:
                 refuse_other_count(finish_dump(run), len(documents))
@@ -305,7 +303,7 @@ class Ordering:
         if self._hidden:
             self._hidden.seek(0)
         stdin = self._hidden or self._original.rewound()
-        return Run([wide_beside(self._program), *words], stdin=stdin, stdout=stdout, group=self._group)
+        return Run([wide_program(self._program, self._group), *words], stdin=stdin, stdout=stdout, group=self._group)
 
     def is_last(self, run: Run) -> bool:
         """Whether a run refused no number, so that no other one is needed; raises why there is no copy for another reason."""
@@ -420,27 +418,6 @@ def _hide(original: Original, codes: Codes, group: Group, out: BinaryIO) -> None
         raise _no_room() from error
 
 
-class Asked(NamedTuple):
-    """What a request is asked by: the connection, and the request in which numbers are codes; the query is None without a copy."""
-
-    connection: Connection
-    request: Request
-    query: Query | None = None
-    levels: dict[str, int] = {}
-    documents: Callable[[bytes, int], list[bytes]] | None = None
-
-    def documents_of(self, decode: Decode[T]) -> Callable[[bytes, int], Texts[T]] | None:
-        """What makes the documents of a batch, None where `decode` says it all."""
-        if self.documents is None:
-            return None
-        documents, document_of = self.documents, decoder(decode)
-        return lambda text, size: Texts(documents(text, size), document_of)
-
-    def places(self) -> ContextManager[None]:
-        """Has refusals name the place in the query as it was given."""
-        return places(self.query, self.levels)
-
-
 @contextmanager
 def places(query: Query | None, levels: dict[str, int]) -> Iterator[None]:
     """Has refusals name the place in a query as it was before its numbers became codes."""
@@ -450,148 +427,6 @@ def places(query: Query | None, levels: dict[str, int]) -> Iterator[None]:
         if query and error.layer == "json" and isinstance(error.place, int):
             raise CommandError(error.layer, error.number, error.text, query.original_byte(levels, error.place)) from None
         raise
-
-
-class Questions:
-    """The connections over a dump: over the dump itself, or over a copy for each set of paths of which requests need codes."""
-
-    def __init__(
-        self,
-        path: File | Original,
-        program: str,
-        timeout: float | None = None,
-        copy: File | None = None,
-        group: Group | None = None,
-    ) -> None:
-        """A dump whose original is given is known to need a copy. With a timeout each connection has a group of its own."""
-        self._program, self._timeout, self._shared = program, timeout, group
-        self.group, self._lock = group or Group(), threading.RLock()
-        self._source = None if isinstance(path, Original) else Source(name_of_file(path), is_named=True)
-        self._original = path if isinstance(path, Original) else None
-        self._copies: dict[frozenset[object], Connection] = {}
-        self._indexes: list[tuple[str, bool]] = []
-        # The probes of which it is known that no document matches, each with its connection.
-        self._without_matches: set[tuple[Connection, str]] = set()
-        self._codes = Codes()
-        self.own: Connection | None = None
-        try:
-            self._open(copy)
-        except BaseException:
-            self.close()
-            raise
-
-    def _open(self, copy: File | None) -> None:
-        """Opens a copy that was kept, the dump, or where the program refuses this for its numbers another copy."""
-        source = self._source
-        if source and copy is not None:
-            with kept_copy(source, copy) as (dump, self._codes):
-                self._copies[self._codes.key] = self._connect(dump)
-            return
-        if source is None or begins_wide(source, self._program, self.group):
-            self._connection_by(Query("{}"), self._codes)
-            return
-        spool = Spool(source.pieces()) if source.size is None else None
-        try:
-            self.own = self._connect(Dump(spool.pieces) if spool else source.dump())
-            self._original = spool.original() if spool else None
-        except DumpError as error:
-            if not is_wide(error):
-                raise
-            self._original = spool.original() if spool else None
-            self._connection_by(Query("{}"), self._codes)
-
-    @property
-    def connections(self) -> list[Connection]:
-        """All that are open; the first is the one that was opened first."""
-        return [*([self.own] if self.own else []), *self._copies.values()]
-
-    @property
-    def original(self) -> Original:
-        """The documents of the dump."""
-        with self._lock:
-            if self._original is None:
-                assert self._source
-                self._original = Original.of(self._source)
-            return self._original
-
-    def do(self, steps: Callable[..., Steps[T]], request: Request, *more: Any) -> T:
-        """What steps of a request come to."""
-        asked = self.asked(request)
-        with asked.places():
-            return asked.connection.do(steps(asked.request, *more))
-
-    def asked(self, request: Request, is_bson: bool = False) -> Asked:
-        """What a request is asked by. Where neither it nor the dump has doubles or decimal128 that is the dump itself."""
-        query = query_of(request, is_bson or self.own is None, self._program)
-        if query is None:
-            return Asked(self.connections[0], request)
-        codes = self._codes.copy()
-        with self._lock:
-            connection = self._connection_by(query, codes)
-        levels = codes.levels
-        probes = [it for it in query.probes_at(levels) if (connection, it.text) not in self._without_matches]
-        rewritten = replace(request, filter=query.rewritten(levels))
-        refuse_matches(connection, probes, rewritten)
-        self._without_matches.update((connection, it.text) for it in probes)
-
-        def documents(text: bytes, size: int) -> list[bytes]:
-            return self.original.given(documents_in(text, size), is_bson, self._program, self.group)
-
-        return Asked(connection, rewritten, query, levels, documents)
-
-    def _connection_by(self, query: Query, codes: Codes) -> Connection:
-        """The connection over a copy for a query."""
-        codes.settle(query)
-        known = self._copies.get(codes.key)
-        if known:
-            return known
-        connection = connect_copy(self.original, query, codes, self._program, self.group, self._connect)
-        known = self._copies.get(codes.key)
-        if known:
-            connection.close()
-            return known
-        for path, sparse in self._indexes:
-            connection.do(steps.create_index(path, sparse))
-        self._copies[codes.key] = connection
-        return connection
-
-    def _connect(self, dump: Dump) -> Connection:
-        check = self._source.check if self._source else lambda: None
-        return Connection(dump, self._program, self._timeout, self._shared, check)
-
-    def create_index(self, path: str, sparse: bool) -> dict[str, Any]:
-        """Makes an index on a path, also for copies that come later. One that would reach hidden numbers is refused."""
-        self._codes.refuse(Query("{}", indexes=[path]))
-        made = [connection.do(steps.create_index(path, sparse)) for connection in self.connections]
-        self._indexes.append((path, sparse))
-        return made[0]
-
-    def drop_index(self, path: str) -> None:
-        """Drops the index on a path."""
-        for connection in self.connections:
-            connection.do(steps.drop_index(path))
-        self._indexes = [it for it in self._indexes if it[0] != path]
-
-    def cancel(self) -> None:
-        """Ends all at once. Any thread may call it."""
-        self.group.end(CancelledError("cancelled"))
-        for connection in self.connections:
-            connection.cancel()
-
-    def close(self) -> None:
-        """Ends all connections."""
-        for connection in self.connections:
-            connection.close()
-        if self._source:
-            if self._original:
-                self._original.close()
-            self._source.close()
-
-    def __enter__(self) -> Questions:
-        return self
-
-    def __exit__(self, *_: object) -> None:
-        self.close()
 
 
 def query_of(request: Request, is_copied: bool, program: str) -> Query | None:
@@ -617,22 +452,20 @@ def _unread(request: Request, program: str) -> CommandError:
     return refused("the text of the query is not read")
 
 
-def refuse_matches(connection: Connection, probes: Iterable[Probe], request: Request) -> None:
+def refuse_matches(connection: Connection, probes: Iterable[Probe], request: Request) -> Plan[None]:
     """Refuses a request for documents that are in the dump."""
     for probe in probes:
+        if probe.text in connection.without_matches:
+            continue
         try:
-            is_found = connection.do(steps.count(Request(probe.text))) > 0
+            found = yield from connection.ask(steps.count(Request(probe.text)))
         except CommandError:
             # The query that the probe was made of has this fault too, and perhaps one before it, which is reported.
-            connection.do(steps.count(request))
+            yield from connection.ask(steps.count(request))
             raise
-        if is_found:
-            raise refused_by(probe)
-
-
-def refused_by(probe: Probe) -> CommandError:
-    """Why a query is refused whose probe matches a document."""
-    return refused(probe.why, probe.place)
+        if found:
+            raise refused(probe.why, probe.place)
+        connection.without_matches.add(probe.text)
 
 
 class AnyLines(Lines):
@@ -715,7 +548,7 @@ class AnyLines(Lines):
         self._request = replace(self._request, filter=query.rewritten(levels))
         try:
             with connection, places(query, levels):
-                refuse_matches(connection, query.probes_at(levels), self._request)
+                now(refuse_matches(connection, query.probes_at(levels), self._request))
                 for lines in self._read(connection):
                     yield original.given(lines, self._is_bson, self._program, self._group)
         except DumpError as error:

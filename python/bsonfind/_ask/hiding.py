@@ -5,15 +5,13 @@ from __future__ import annotations
 from typing import BinaryIO, Iterable, Iterator
 
 from .._dumps import framing
+from .._dumps.elements import value_end
 from .._errors import DumpError
 
 _PIECE = 1 << 20
 # How deep documents are looked into, as `bsonwide order` does.
 _LEVELS = 200
-# How many bytes the values of a type have; or the first four count, beside all but so many.
-_FIXED = {0x01: 8, 0x06: 0, 0x07: 12, 0x08: 1, 0x09: 8, 0x0A: 0, 0x10: 4, 0x11: 8, 0x12: 8, 0x13: 16, 0x7F: 0, 0xFF: 0}
-_COUNTED = {0x02: 4, 0x03: 0, 0x04: 0, 0x05: 5, 0x0C: 16, 0x0D: 4, 0x0E: 4, 0x0F: 0}
-_DOCUMENT, _ARRAY, _SCOPED, _PATTERN = 0x03, 0x04, 0x0F, 0x0B
+_DOCUMENT, _ARRAY, _SCOPED = 0x03, 0x04, 0x0F
 _DOUBLE, _DECIMAL, _INT64, _BINARY = 0x01, 0x13, 0x12, 0x05
 
 
@@ -50,7 +48,7 @@ class _Hiding:
         """The elements from one place to another, up to the first that is not known; `before` stands before their names."""
         while at < end:
             kind, value = data[at], data.find(0, at + 1, end) + 1
-            after = value and _after(data, kind, value, end)
+            after = value and value_end(data, kind, value)
             if not after or after > end:
                 return
             path = before if is_array else before + data[at + 1 : value - 1]
@@ -70,18 +68,6 @@ class _Hiding:
                 return
         is_array = kind == _ARRAY
         self.elements(data, value + 4, after - 1, path if is_array else path + b".", is_array, levels)
-
-
-def _after(data: bytearray, kind: int, value: int, end: int) -> int:
-    """Where a value ends; 0 where that is not known."""
-    if kind in _FIXED:
-        return value + _FIXED[kind]
-    if kind in _COUNTED and value + 4 <= end:
-        return value + _count(data, value) + _COUNTED[kind]
-    if kind == _PATTERN:
-        options = data.find(0, value, end) + 1
-        return options and data.find(0, options, end) + 1
-    return 0
 
 
 def _count(data: bytearray, at: int) -> int:

@@ -14,7 +14,6 @@ with the byte.
 
 from __future__ import annotations
 
-import re
 from concurrent.futures import ThreadPoolExecutor
 from functools import partial
 from typing import Any, Callable, Iterable, Iterator, Literal, NamedTuple, Sequence, TypeVar, overload
@@ -22,6 +21,7 @@ from typing import Any, Callable, Iterable, Iterator, Literal, NamedTuple, Seque
 from .._dumps.checking import checking, faults_of, finish_check, is_wide
 from .._dumps.parts import Part, PartError
 from .._dumps.plain import plain_pieces
+from .._dumps.printing import PACKED, pack_lines
 from .._dumps.sources import Input
 from .._errors import ArgumentError, BsonfindError, DumpError, ProgramError
 from .._faults import Fault
@@ -29,15 +29,16 @@ from .._numbers import seconds, whole
 from .._run.processes import Dump, Group, Run
 from . import steps
 from .connections import Connection
-from .copies import AnyLines, Original, Questions, compares_wide, try_request
+from .copies import AnyLines, Original, compares_wide, try_request
 from .decoding import Decode, Dicts, Texts, decoder, refuse_bson, with_uuids
 from .lines import Lines, counted
+from .plans import now
+from .questions import Questions
 from .requests import Filter, Request, Sort
 from .values import Uuids
 
 T = TypeVar("T")
 Map = Callable[[Callable[[Part], Any], Sequence[Part]], Iterable[Any]]
-_PACKED = re.compile(r"\d+ objects packed\n")
 
 
 class Check(NamedTuple):
@@ -251,10 +252,7 @@ def _packed_lines(request: Request, program: str, group: Group, part: Part) -> b
     if request.is_long:
         batches = Lines(dump, request, program, group=group).batches()
         texts = (b"".join(line + b"\n" for line in batch) for batch in batches)
-        with Run([program, "pack", "-"], texts, group=group) as packed:
-            data = packed.stdout.read()
-            packed.finish(_PACKED)
-            return data
+        return pack_lines(texts, program, group)
     with Run.over(dump, program, "find", request.words(), group=group) as found:
         with Run([program, "pack", "-"], stdin=found.stdout, group=group) as packed:
             found.stdout.close()
@@ -269,9 +267,9 @@ def _finish(found: Run, packed: Run) -> None:
         counted(found)
     except ProgramError as error:
         if str(error) == "cannot write":
-            packed.finish(_PACKED)
+            packed.finish(PACKED)
         raise
-    packed.finish(_PACKED)
+    packed.finish(PACKED)
 
 
 def _count(request: Request, program: str, group: Group, part: Part) -> int:
@@ -286,7 +284,7 @@ def _count(request: Request, program: str, group: Group, part: Part) -> int:
     original.first, original.offset = part.first, part.offset
     try:
         with Questions(original, program, group=group) as questions:
-            return questions.do(steps.count, request)
+            return now(questions.ask(steps.count, request))
     finally:
         original.close()
 

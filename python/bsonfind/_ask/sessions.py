@@ -7,14 +7,16 @@ from typing import Any, Callable, Iterator, TypeVar, overload
 
 from .._names import File
 from . import steps
-from .connections import Connection
-from .copies import Questions
 from .decoding import Decode, Dicts, Raw, with_uuids
+from .distinct import Distinct, Values
+from .plans import Plan, now
+from .questions import Answering, Questions
 from .requests import Filter, Request, Sort
-from .steps import Hint, Reading, use_of
+from .steps import Hint, use_of
 from .values import Uuids, uuids_of
 
 T = TypeVar("T")
+Result = TypeVar("Result")
 
 
 class Session:
@@ -23,8 +25,8 @@ class Session:
     Threads may share a session, and a cursor belongs to one thread at a time. Another process, such as one by a fork, opens its
     own session: there each call of this one is an `OtherProcessError`. A dump that is refused is a `DumpError` at once, and a
     `SessionEndedError` reports that the program went away later. A dump with doubles or decimal128 is asked by way of a copy, which
-    is written when the session begins; a request that needs codes of further numbers has another copy, which is kept too. Where a `timeout` is given, no reply may take more seconds: a
-    `TimedOutError` then ends the session.
+    is written when the session begins; a request that needs codes of further numbers has another copy, of which the last eight are
+    kept. Where a `timeout` is given, no call may take more seconds: a `TimedOutError` then ends the session.
     """
 
     def __init__(
@@ -87,11 +89,12 @@ class Session:
         after: str | None,
         decode: Decode[Any],
     ) -> Cursor[Any]:
-        decode = with_uuids(decode, self._uuids)
-        asked = self._questions.asked(Request.of(filter, sort, skip, limit, self._uuids), is_bson=decode == "bson")
-        reading = Reading(asked.request, use_of(hint), batch_size, after, decode, asked.documents_of(decode))
-        with asked.places():
-            return Cursor(asked.connection, reading)
+        request = Request.of(filter, sort, skip, limit, self._uuids)
+        return Cursor(self._questions, Answering(request, use_of(hint), batch_size, after, with_uuids(decode, self._uuids)))
+
+    def _do(self, plan: Plan[T]) -> T:
+        with self._questions.in_time():
+            return now(plan)
 
     # fmt: off
     @overload
@@ -120,20 +123,28 @@ class Session:
         decode: Decode[Any] = "plain",
     ) -> Any:
         """The first document of an answer, None if it has none."""
-        with self._cursor(filter, sort, skip, 1, 100, hint, None, decode) as cursor:
+        with self._questions.in_time(), self._cursor(filter, sort, skip, 1, 100, hint, None, decode) as cursor:
             return next(cursor, None)
 
     def count_documents(self, filter: Filter | None = None) -> int:
         """How many documents match."""
-        return self._questions.do(steps.count, Request.of(filter, uuids=self._uuids))
+        return self._do(self._questions.ask(steps.count, Request.of(filter, uuids=self._uuids)))
+
+    def distinct(self, key: str, filter: Filter | None = None, *, decode: Values = "plain") -> list[Any]:
+        """The values of a field in the documents that match, each once: of an array each element, and numbers by their values."""
+        distinct = Distinct(key, decode, self._uuids)
+        with self._questions.in_time():
+            for document in self.find(filter, decode="canonical"):
+                distinct.add(document)
+        return distinct.values()
 
     def create_index(self, path: str, sparse: bool = False) -> dict[str, Any]:
         """Makes an index on a path: how many `entries` it has, and whether a document has more than one (`multikey`)."""
-        return self._questions.create_index(path, sparse)
+        return self._do(self._questions.create_index(path, sparse))
 
     def drop_index(self, path: str) -> None:
         """Drops the index on a path; cursors that were opened by it give the same."""
-        self._questions.drop_index(path)
+        self._do(self._questions.drop_index(path))
 
     def explain(
         self,
@@ -146,7 +157,7 @@ class Session:
     ) -> dict[str, Any]:
         """How an answer is found: the `plan`, the path of the `index`, and how many `entries`, `documents` and `matches`."""
         request = Request.of(filter, sort, skip, limit, self._uuids)
-        return self._questions.do(steps.explain, request, use_of(hint))
+        return self._do(self._questions.ask(steps.explain, request, use_of(hint)))
 
     def cancel(self) -> None:
         """Ends the session at once, from any thread: a call that waits for a reply gets a `CancelledError`."""
@@ -170,24 +181,26 @@ class Cursor(Iterator[T]):
     gives the documents after it; a cursor that was interrupted while it read says so by a `CursorStateError`.
     """
 
-    def __init__(self, connection: Connection, reading: Reading[T]) -> None:
-        self._connection, self._reading = connection, reading
+    def __init__(self, questions: Questions, answering: Answering) -> None:
+        self._questions, self._answering = questions, answering
         self._owner = getpid()
-        self._is_closed = False
-        connection.do(reading.start())
+        self._do(answering.open(questions))
 
     def __next__(self) -> T:
         if getpid() != self._owner:
-            self._connection.check()
-        documents = self._reading.held.documents
-        while not documents.left and not self._reading.is_at_end and not self._is_closed:
-            self._connection.check_open()
-            self._connection.do(self._reading.read_on())
-            documents = self._reading.held.documents
-        if self._is_closed or not documents.left:
+            self._questions.check()
+        answering = self._answering
+        if not answering.reading.held.documents.left and not answering.is_at_end:
+            self._do(answering.read_on(self._questions))
+        documents = answering.reading.held.documents
+        if answering.is_closed or not documents.left:
             raise StopIteration
         document: T = documents.give()
         return document
+
+    def _do(self, plan: Plan[Result]) -> Result:
+        with self._questions.in_time():
+            return now(plan)
 
     @property
     def token(self) -> str | None:
@@ -195,22 +208,16 @@ class Cursor(Iterator[T]):
 
         Within a batch the program is asked for it, by a cursor that gives the same documents again.
         """
-        return self._connection.do(self._reading.token())
+        return self._do(self._answering.token(self._questions))
 
     def explain(self) -> dict[str, Any]:
         """How the answer is found, as `Session.explain` says it."""
-        return self._connection.do(self._reading.explain())
+        return self._do(self._answering.explain(self._questions))
 
     def close(self) -> None:
         """Closes the cursor: no document follows. Its token stays."""
-        self._connection.check()
-        self._is_closed = True
-        self._leave()
-
-    def _leave(self) -> None:
-        number, self._reading.number = self._reading.number, None
-        if number is not None:
-            self._connection.leave(number)
+        self._questions.check()
+        self._answering.close()
 
     def __enter__(self) -> Cursor[T]:
         return self
@@ -219,4 +226,4 @@ class Cursor(Iterator[T]):
         self.close()
 
     def __del__(self) -> None:
-        self._leave()
+        self._answering.leave()

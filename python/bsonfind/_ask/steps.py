@@ -1,15 +1,18 @@
-"""What a session asks and what it makes of the replies, without input and output, so that threads and asyncio share it.
+"""What a session asks and what it makes of the replies, without input and output.
 
-Each function here is a generator: it yields a command, is sent the line of the reply, and returns what was asked for.
+Each function here is a generator: it yields a command, is sent the line of the reply, and returns what was asked for. What takes long
+beside that, such as documents in place of those of a copy, is yielded as work.
 """
 
 from __future__ import annotations
 
+from functools import partial
 from typing import Any, Callable, Generator, Generic, Mapping, NamedTuple, Sequence, TypeVar, Union
 
 from .._errors import ArgumentError, CommandError, CursorStateError
 from .._numbers import whole
 from .decoding import Decode, Parsed, Texts, batches_by
+from .plans import Work
 from .replies import Batch, read_batch, read_reply
 from .requests import Request, text_of, text_of_pairs
 
@@ -50,7 +53,7 @@ class Command(NamedTuple):
 
 
 # The reply is None if it has more bytes than the command says.
-Steps = Generator[Command, Any, T]
+Steps = Generator[Union[Command, Work], Any, T]
 
 
 def ask(command: Command, *names: str) -> Steps[dict[str, Any]]:
@@ -122,17 +125,19 @@ class Reading(Generic[T]):
         decode: Decode[T],
         documents_of: Callable[[bytes, int], Texts[T] | Parsed] | None = None,
     ) -> None:
-        """What makes the documents of a batch of its text and their number is given, or follows from `decode`."""
+        """What makes the documents of a batch of its text and their number follows from `decode`, or is given, and then takes long."""
         self._request, self._use = request, text_of(use)
         self._batch_size = whole("batch_size", batch_size, 1)
         self._size = min(self._batch_size, FIRST_BATCH)
-        self._documents_of = documents_of or batches_by(decode)
+        self._documents_of, self._takes_long = documents_of or batches_by(decode), documents_of is not None
         # The number of the cursor, where it is open.
         self.number: int | None = None
         self._is_opened = self.is_at_end = False
         # False from the moment on when the program is asked for a batch until that is kept.
         self._is_known = True
-        self.held = Held(self._documents_of(b"", 0), after, after)
+        # A batch that was read, and how many documents were asked for, while there are no documents of it yet.
+        self._batch: tuple[Batch, int] | None = None
+        self.held = Held(Texts([], bytes), after, after)
 
     def start(self) -> Steps[None]:
         """Opens a cursor of the program after the documents that were read."""
@@ -145,15 +150,22 @@ class Reading(Generic[T]):
             raise CursorStateError("interrupted while a batch was read: open another cursor by the token of this one")
         self._is_known = False
         try:
-            if not self._is_opened:
-                yield from self.start()
-            batch, size = yield from self._read(most or self._batch_size)
+            if self._batch is None:
+                if not self._is_opened:
+                    yield from self.start()
+                self._batch = yield from self._read(most or self._batch_size)
         except CommandError:
             self._is_known = True  # A refused command changes nothing.
             raise
+        batch, size = self._batch
         # A batch that is not the last one has as many documents as were asked for.
-        documents = self._documents_of(batch.text, 0 if batch.end else size)
-        self.held = Held(documents, self.held.after, batch.token)
+        make = partial(self._documents_of, batch.text, 0 if batch.end else size)
+        try:
+            documents = (yield Work(make)) if self._takes_long else make()
+        except BaseException:
+            self._is_known = True  # The next call makes them of the batch that is kept.
+            raise
+        self.held, self._batch = Held(documents, self.held.after, batch.token), None
         if batch.end:
             self.number, self.is_at_end = None, True
         else:

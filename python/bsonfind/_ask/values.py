@@ -16,6 +16,11 @@ _HEX = re.compile("[0-9a-f]{24}")
 # The texts of numbers as the program prints them. Python reads others too, such as "1_000", which a document of a dump may have.
 _WHOLE = re.compile("-?(?:0|[1-9][0-9]*)")
 _DOUBLE = re.compile(r"-?[0-9]+(?:\.[0-9]+)?(?:E[+-]?[0-9]+)?|NaN|-?Infinity")
+# The names that begin an object which means another value.
+WRAPPERS = (
+    "$binary", "$code", "$date", "$dbPointer", "$maxKey", "$minKey", "$numberDecimal", "$numberDouble", "$numberInt",
+    "$numberLong", "$oid", "$regularExpression", "$scope", "$symbol", "$timestamp", "$undefined", "$uuid",
+)  # fmt: skip
 # How UUIDs are written, by the names of pymongo: as subtype 04, or by old drivers as subtype 03 with their bytes in some order.
 Uuids = Literal["standard", "pythonLegacy", "javaLegacy", "csharpLegacy"]
 # What puts the bytes of a UUID in this order, and back.
@@ -69,10 +74,11 @@ def plain_document(document: dict[str, Any], uuids: Uuids = "standard") -> dict[
     UUIDs of the representation a `UUID`, and ids an `ObjectId`. What Python has no plain value for stays as it is, such as
     `{"$minKey": 1}`, and a date after the year 9999.
     """
-    return {name: _plain(value, uuids) for name, value in document.items()}
+    return {name: plain_value(value, uuids) for name, value in document.items()}
 
 
-def _plain(value: Any, uuids: Uuids) -> Any:
+def plain_value(value: Any, uuids: Uuids = "standard") -> Any:
+    """A value as `plain_document` has it."""
     if isinstance(value, dict):
         if len(value) == 1:
             ((name, inner),) = value.items()
@@ -84,7 +90,7 @@ def _plain(value: Any, uuids: Uuids) -> Any:
                     return value  # Another document than the value that the name represents, or one without a plain value.
         return plain_document(value, uuids)
     if isinstance(value, list):
-        return [_plain(it, uuids) for it in value]
+        return [plain_value(it, uuids) for it in value]
     return value
 
 
