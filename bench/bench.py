@@ -137,13 +137,13 @@ class Wide(NamedTuple):
     dump: str
 
     def file_tasks(self, lines: str, paths: list[str], room: str) -> list[Task]:
-        """The whole file, `check` first; `pack` is by other programs alone. And `order` by itself."""
+        """The whole file, `check` first. And `order` by itself."""
         others = peers.of_files({"check": self.dump, "dump": self.dump, "pack": lines}, room)
         known = printed([self.wide, "--help"]).decode()
         return [
             Task("check", {OWN: [self.wide, "check", self.dump], **others["check"]}),
             Task("dump", {OWN: [self.wide, "dump", self.dump], **others["dump"]}, alike=["cat", lines]),
-            Task("pack", others["pack"]),
+            Task("pack", {OWN: [self.wide, "pack", lines], **others["pack"]}, alike=["cat", self.dump]),
             *([Task("order alone", {OWN: [self.wide, "order", self.dump, *paths]})] if "bsonwide order" in known else []),
         ]
 

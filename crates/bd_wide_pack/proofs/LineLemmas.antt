@@ -1,5 +1,5 @@
 -- A line by its two texts.
-use Rattle.std.proofs.Common.{◌≡◌, ◌≤◌, ◌<◌, ◌⊎◌, inl, inr, ℕ, nat_le, Bool, true, false, ◌||◌, cond, List, [], ◌∷◌, ◌++◌, length, refl, sym, ap, ◌∙◌, subst, Option, Some, None, Result, Ok, Err, IfOk}
+use Rattle.std.proofs.Common.{◌≡◌, ◌≤◌, ◌<◌, ◌⊎◌, inl, inr, ℕ, nat_lt, ◌==◌, ◌&&◌, not, Bool, true, false, ◌||◌, cond, List, [], ◌∷◌, ◌++◌, length, refl, sym, ap, ◌∙◌, subst, Option, Some, None, Result, Ok, Err, IfOk}
 use Rattle.std.specs.Option.{ok_or}
 use Rattle.std.specs.Prelude.{IfSome}
 use Rattle.bd_value.specs.{Limits.longest_document, Tree.Doc}
@@ -12,7 +12,7 @@ use Rattle.bd_extjson_pack.specs.Packable.{IsPackable, plain}
 use Rattle.bd_extjson_pack.specs.declared.line.LineFault.{LineFault}
 use Rattle.bd_extjson_pack.specs.declared.line.LineFault.TheVariants as faults
 use Rattle.bd_wide_number.specs.declared.number.Number.{Number}
-use Rattle.bd_wide_pack.specs.WideLine.{IsBad, IsMixed, IsPacked, IsRead, both, both_documents, document_of, earlier, has_no_byte}
+use Rattle.bd_wide_pack.specs.WideLine.{IsBad, IsMixed, IsPacked, IsRead, both, both_documents, document_of, earlier, has_no_byte, is_bad_wrapper}
 use Rattle.bd_wide_pack.specs.inside.Outcome.{AreOutcome, HasTexts, IsNotMixed, IsOutcome, IsReportedAs, first_of}
 use Rattle.bd_wide_pack.proofs.PlainLemmas.{plain_mixed}
 use Rattle.bd_wide_substitute.specs.Substitutes.{ArePieces, Filler, Piece, all_numbers, number, same, text, whole, with_fillers}
@@ -100,12 +100,14 @@ plain_outcome line bytes ps are none o h =
     let other = subst (λ (x : List ℕ). IsOutcome x bytes o) (sym (no_numbers text line ps are none)) h in
     subst (λ (f : Option LineFault). AreOutcome ps bytes bytes f) (first_same o) (outcomes ps bytes bytes o o one other)
   where
+    always : (f : JsonFault) (b c d : Bool) → cond b f (cond c f (cond d f f)) ≡ f
+    always f true c d = refl
+    always f false true d = refl
+    always f false false true = refl
+    always f false false false = refl
+
     earlier_same : (f : JsonFault) → earlier f f ≡ f
-    earlier_same f = elim (has_no_byte f.kind) as (λ b. cond b f (cond (b || nat_le f.at f.at) f f) ≡ f) [ true ↦ refl | false ↦ either_same (nat_le f.at f.at) ]
-      where
-        either_same : (b : Bool) → cond b f f ≡ f
-        either_same true = refl
-        either_same false = refl
+    earlier_same f = always f (has_no_byte f.kind) (has_no_byte f.kind || nat_lt f.at f.at) (f.at == f.at && not (is_bad_wrapper f.kind))
 
     first_same : (o : Option LineFault) → first_of o o ≡ o
     first_same None = refl

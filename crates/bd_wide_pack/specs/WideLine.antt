@@ -1,5 +1,5 @@
 -- Which lines are packed as documents of all types, as which bytes, and why others are not.
-use Rattle.std.specs.Prelude.{◌≡◌, ◌⊎◌, ◌≤◌, ◌<◌, ◌||◌, nat_le, ℕ, List, [], length, drop, Bool, true, false, if◌then◌else◌}
+use Rattle.std.specs.Prelude.{◌≡◌, ◌⊎◌, ◌≤◌, ◌<◌, ◌||◌, ◌&&◌, ◌==◌, not, nat_lt, ℕ, List, [], length, drop, Bool, true, false, if◌then◌else◌}
 use Rattle.std.specs.Prelude.{Result, Ok, Err}
 use Rattle.std.specs.Option.{ok_or}
 use Rattle.bd_value.specs.{Limits.longest_document, Tree.Doc}
@@ -24,10 +24,16 @@ abbrev pub has_no_byte : JsonFaultKind → Bool
 has_no_byte kinds.NotADocument = true
 has_no_byte kind = false
 
--- the earlier of two faults, by their bytes; one without a byte comes last
+-- whether an object is not the wrapper that its name says
+abbrev pub is_bad_wrapper : JsonFaultKind → Bool
+is_bad_wrapper kinds.BadWrapper = true
+is_bad_wrapper kind = false
+
+-- The earlier of two faults, by their bytes. At one byte a bad wrapper is first; a fault without a byte comes last.
 abbrev pub earlier : JsonFault → JsonFault → JsonFault
 earlier one other = if has_no_byte one.kind then other
-    else (if has_no_byte other.kind || nat_le one.at other.at then one else other)
+    else (if has_no_byte other.kind || nat_lt one.at other.at then one
+    else (if one.at == other.at && not (is_bad_wrapper other.kind) then one else other))
 
 -- the document of a text, or its fault
 abbrev pub document_of : List ℕ → Result Doc JsonFault

@@ -3,7 +3,7 @@
 ghost use Rattle.std.specs.Prelude.{◌≡◌, ◌≤◌, ◌++◌, List, [], ℕ, IfOk, IfSome, OnErr, Ok, None, length};
 ghost use Rattle.bd_value.specs.{Limits.longest_document, Tree.Doc};
 ghost use Rattle.bd_bson_view.specs.Spelling.{IsDocument};
-ghost use Rattle.bd_wide_pack.specs.WideLine.{IsBad, IsMixed, IsPacked, earlier as earlier_of, has_no_byte as has_no_byte_of};
+ghost use Rattle.bd_wide_pack.specs.WideLine.{IsBad, IsMixed, IsPacked, earlier as earlier_of, has_no_byte as has_no_byte_of, is_bad_wrapper as is_bad_wrapper_of};
 ghost use Rattle.bd_wide_pack.specs.inside.Outcome.{HasTexts, IsNotMixed, IsOutcome, IsReportedAs, first_of};
 ghost use Rattle.bd_wide_substitute.specs.Substitutes.{ArePieces, Piece, all_numbers};
 
@@ -177,14 +177,17 @@ fn first_fault(whole: Option<LineFault>, text: Option<LineFault>) -> Option<Line
     }
 }
 
-/// The earlier of two faults, by their bytes. That a text is no document comes last.
+/// The earlier of two faults, by their bytes. At one byte a bad wrapper is first; that a text is no document comes last.
 fn earlier(one: JsonFault, other: JsonFault) -> JsonFault
     ensures { result ≡ earlier_of one other }
 {
     if has_no_byte(one) {
         return other;
     }
-    if has_no_byte(other) || one.at <= other.at {
+    if has_no_byte(other) || one.at < other.at {
+        return one;
+    }
+    if one.at == other.at && !is_bad_wrapper(other) {
         return one;
     }
     other
@@ -195,4 +198,11 @@ fn has_no_byte(fault: JsonFault) -> bool
     ensures { result ≡ has_no_byte_of fault.kind }
 {
     matches!(fault.kind, JsonFaultKind::NotADocument)
+}
+
+/// Whether an object is not the wrapper that its name says.
+fn is_bad_wrapper(fault: JsonFault) -> bool
+    ensures { result ≡ is_bad_wrapper_of fault.kind }
+{
+    matches!(fault.kind, JsonFaultKind::BadWrapper)
 }
