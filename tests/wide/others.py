@@ -169,7 +169,8 @@ def main() -> int:
         if packs:
             for of, texts, read_text in ((DOUBLE, [between(it, rng) for it in doubles], double_in), (DECIMAL, [a_decimal_text(rng) for _ in decimals], decimal_in)):
                 lines = [f'{{"a":{{"{of[1]}":"{text}"}}}}'.encode() for text in texts]
-                try_pack(tests, program, go, of, lines, [read_text(text) for text in texts])
+                # Go's driver refuses some texts of more than 34 digits whose number has fewer.
+                try_pack(tests, program, go if of == DOUBLE else [], of, lines, [read_text(text) for text in texts])
     print(f"{tests.passed} passed, {tests.failed} failed")
     return int(tests.failed > 0)
 
