@@ -63,6 +63,7 @@ USED_BY_UNCALLED = (
     "Rattle.bd_wide_number.proofs.LawLemmas.",
     "Rattle.bd_wide_order.proofs.ReachLemmas.passing_over",
     "Rattle.bd_wide_dump.specs.inside.Begins.values_in",
+    "Rattle.bd_cli_scan.specs.Run.StopsWithin",
 )
 
 

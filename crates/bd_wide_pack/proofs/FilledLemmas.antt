@@ -57,6 +57,7 @@ items_as fs ws vs ts us before between after e f g h =
     subst P e (subst Q f (subst R g h))
 
 mutual
+  -- two values with the numbers are one
   pub one_tree : (x y w t : Tree) (before a b : List Number) → IsFilled x w t before a → IsFilled y w t before b → (x ≡ y) × (a ≡ b)
   one_tree (leaf s) (leaf r) w t before a b p q = let e = one_leaf s r w t before a b p q in (ap leaf e.0, e.1)
   one_tree (doc fs) (doc gs) w t before a b p q =
@@ -79,6 +80,7 @@ mutual
       let h : form x ≡ form y = sym (forms x w t before a p).0 ∙ (forms y w t before b q).0 in
       absurd (omega (arith, h))
 
+  -- fields with the numbers, and the numbers after them, are given by those of the two documents
   pub one_fields : (fs gs ws ts : Fields) (before a b : List Number) → AreFilled fs ws ts before a → AreFilled gs ws ts before b → (fs ≡ gs) × (a ≡ b)
   one_fields no_fields no_fields ws ts before a b p q = (refl, sym p.2 ∙ q.2)
   one_fields no_fields (field m y gs) ws ts before a b p q = let e : no_fields ≡ field m q.0 q.2 = sym p.0 ∙ q.5 in absurd cc
