@@ -54,7 +54,7 @@ def names() -> set[str]:
 
 
 # No program calls these crates yet. The comments of their lemmas and the place of their definitions are looked at once one does.
-UNCALLED = ("bd_wide_copy", "bd_wide_rank")
+UNCALLED = ("bd_wide_copy", "bd_wide_query", "bd_wide_rank")
 # Only these crates use them beside their own: they get a comment, or leave `inside`, with the next change of theirs.
 USED_BY_UNCALLED = (
     "Rattle.bd_value.proofs.PartsLemmas.code_is",

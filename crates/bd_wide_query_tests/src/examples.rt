@@ -1,0 +1,27 @@
+//! The example of use in the root of `bd_wide_query`.
+use bd_extjson::read_doc;
+use bd_extjson_text::write_doc;
+use bd_wide_number::Number;
+use bd_wide_query::code_query;
+use bd_wide_rank::Numbers;
+use std::test::Fail;
+
+#[test]
+fn between_two(rt: HostRuntime) -> Result<(), Fail> {
+    let alloc = rt.alloc();
+    let mut numbers = Numbers::new(alloc);
+    for number in [Number::Whole(1), Number::Whole(2)] {
+        numbers.push(number)?;
+    }
+    let table = numbers.into_table().expect(&rt, "few numbers");
+    // {"a":{"$gt":1.5,"$size":2}}
+    let wholes = read_doc(alloc, b"{\"a\":{\"$gt\":0,\"$size\":2}}")?;
+    let texts = read_doc(alloc, b"{\"a\":{\"$gt\":\"\",\"$size\":2}}")?;
+    let doubles = [Number::Double(0x3ff8_0000_0000_0000)];
+    let coded = code_query(alloc, &wholes, &texts, &doubles, &table)?.expect(&rt, "a query");
+    let mut text = Vec::new(alloc);
+    write_doc(&coded, &mut text)?;
+    let wanted = b"{\"a\":{\"$gt\":{\"$numberLong\":\"2\"},\"$size\":{\"$numberInt\":\"2\"}}}";
+    assert!(rt; text.as_slice() == wanted.as_slice());
+    Ok(())
+}
