@@ -10,7 +10,7 @@ _bsonkit() {
 	local word=${COMP_WORDS[COMP_CWORD]} command=${COMP_WORDS[1]} before=${COMP_WORDS[COMP_CWORD - 1]} options
 	COMPREPLY=()
 	if ((COMP_CWORD == 1)); then
-		mapfile -t COMPREPLY < <(compgen -W 'check dump find prepare audit salvage unpack compare query ids --help --version' -- "$word")
+		mapfile -t COMPREPLY < <(compgen -W 'check dump pack find prepare audit salvage unpack compare query ids --help --version' -- "$word")
 		return
 	fi
 	case $before in

@@ -6,9 +6,10 @@ function __bsonkit_command
     test (count $words) -gt 1; and contains -- $words[2] $argv
 end
 
-set -l commands check dump find prepare audit salvage unpack compare query ids
+set -l commands check dump pack find prepare audit salvage unpack compare query ids
 complete -c bsonkit -n "not __bsonkit_command $commands" -f -a check -d 'print each fault of dumps'
 complete -c bsonkit -n "not __bsonkit_command $commands" -f -a dump -d 'print the documents of dumps, one a line'
+complete -c bsonkit -n "not __bsonkit_command $commands" -f -a pack -d 'write the dump of lines of Extended JSON'
 complete -c bsonkit -n "not __bsonkit_command $commands" -f -a find -d 'print the documents of a dump that match a query, sorted'
 complete -c bsonkit -n "not __bsonkit_command $commands" -f -a prepare -d 'keep a copy of a dump with doubles or decimal128'
 complete -c bsonkit -n "not __bsonkit_command $commands" -f -a audit -d 'check many files, on all processors'

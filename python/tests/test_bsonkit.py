@@ -26,6 +26,25 @@ def options() -> Dict[str, Set[str]]:
     return {name: {it for action in command._actions for it in action.option_strings if it.startswith("--")} - common for name, command in commands.choices.items()}
 
 
+class Packing(Room):
+    """`pack` is that of the program."""
+
+    def test_lines(self) -> None:
+        lines = b'{"a":1.5}\n{"a":{"$numberDecimal":"1.50"}}\n'
+        # By BSON 1.1: a double, and a decimal128 of 150 with the exponent -2.
+        wanted = bytes.fromhex("10000000 0161 00 000000000000f83f 00") + bytes.fromhex("18000000 1361 00 96000000000000000000000000003c30 00")
+        for word, sent in ((str(self.file(lines, "lines")), b""), ("-", lines)):
+            run = subprocess.run([sys.executable, "-m", "bsonfind", "--program", PROGRAM, "pack", word], env=environment(), input=sent, capture_output=True)
+            self.assertEqual((run.returncode, run.stdout, run.stderr), (0, wanted, b"2 objects packed\n"))
+
+    def test_bad_and_missing(self) -> None:
+        bad = run_package("pack", str(self.file(b'{"a":1}\n{"a":{"$numberDouble":"abc"}}\n', "lines")))
+        self.assertEqual((bad.returncode, bad.stderr), (1, "bsonwide: line 2, byte 5: bad wrapper\n1 objects packed\n"))
+        missing = run_package("pack", "no-such-file")
+        self.assertEqual((missing.returncode, missing.stdout, missing.stderr), (1, "", "bsonwide: cannot open no-such-file\n"))
+        self.assertEqual(run_package("pack").returncode, 2)
+
+
 class Arguments(Room):
     def refused(self, *words: str) -> str:
         """What is said of arguments, with status 2."""

@@ -100,6 +100,11 @@ def _add_dumps(command: argparse.ArgumentParser) -> None:
     command.add_argument("files", nargs="+", metavar="FILE", help="a dump of any size, one by mongodump --gzip, or - for standard input")
 
 
+def _add_pack(command: argparse.ArgumentParser) -> None:
+    command.epilog = f"{_AS_THE_PROGRAM.format('packed')} Unless it is 0, delete what it wrote."
+    command.add_argument("file", metavar="FILE", help="a text with a document on each line, as dump prints it, or - for standard input")
+
+
 def _add_find(command: argparse.ArgumentParser) -> None:
     command.epilog = f"{_AS_THE_PROGRAM.format('printed')} Unless it is 0, delete what it wrote."
     command.add_argument("file", metavar="FILE", help="a dump, one by mongodump --gzip, or - for standard input")
@@ -183,6 +188,7 @@ def _add_ids(command: argparse.ArgumentParser) -> None:
 _COMMANDS: Sequence[tuple[str, Callable[[argparse.ArgumentParser], None], str]] = (
     ("check", _add_check, "Prints each fault of dumps; doubles and decimal128 are none."),
     ("dump", _add_dump, "Prints the documents of dumps, one a line."),
+    ("pack", _add_pack, "Writes the dump of lines of Extended JSON."),
     ("find", _add_find, "Prints the documents of a dump that match a query, sorted."),
     ("prepare", _add_prepare, "Keeps a copy of a dump with doubles or decimal128, for many questions."),
     ("audit", _add_audit, "Checks many files, on all processors."),

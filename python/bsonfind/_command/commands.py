@@ -18,7 +18,7 @@ if TYPE_CHECKING:
 
 GOOD, FAULTY, FAILED = 0, 1, 2
 # The commands with the statuses of the program, in which 1 is all that failed.
-AS_THE_PROGRAM = ("check", "dump", "find", "prepare")
+AS_THE_PROGRAM = ("check", "dump", "pack", "find", "prepare")
 
 
 def run(words: argparse.Namespace) -> int:
@@ -37,6 +37,15 @@ def _run_dump(words: argparse.Namespace) -> int:
     from .checks import dump_file
 
     return _run_each(words, dump_file)
+
+
+def _run_pack(words: argparse.Namespace) -> int:
+    """Becomes the program, which reads a text by itself; only an error comes back."""
+    from .._run.wide import wide_program
+    from .program import execute
+
+    execute(wide_program(words.program), ["pack", words.file])
+    return FAULTY
 
 
 def _run_each(words: argparse.Namespace, run_one: Callable[[str, str, Console, str], bool]) -> int:

@@ -15,8 +15,8 @@ _IGNORED = (signal.SIGPIPE, signal.SIGXFSZ)
 _LARGEST = 4_294_967_295
 # The first bytes of what is no plain dump: an archive, or a file of gzip, which may hold one.
 _OTHERS = (b"\x6d\xe2\x99\x81", b"\x1f\x8b")
-# The commands of one plain file that are those of the program, with what the program calls the file.
-_COMMANDS = {"check": "-", "dump": "-"}
+# The commands of one plain dump that are those of the program, and the one of a text, which the program opens itself.
+_OF_DUMPS, _OF_TEXTS = ("check", "dump"), ("pack",)
 
 
 def become_program(words: list[str]) -> None:
@@ -28,18 +28,28 @@ def become_program(words: list[str]) -> None:
     rest, program = list(words), "bsonfind"
     if rest[:1] == ["--program"] and len(rest) > 1:
         program, rest = rest[1], rest[2:]
-    if len(rest) != 2 or rest[0] not in _COMMANDS or rest[1] != "-" and rest[1].startswith("-"):
+    if len(rest) != 2 or rest[0] not in (*_OF_DUMPS, *_OF_TEXTS) or rest[1] != "-" and rest[1].startswith("-"):
         return
+    command, file = rest
     wide = located_wide(program)
-    if wide is None or not (_has_streams() and _take_as_input(rest[1]) and says(wide, f"bsonwide {__version__}\n".encode())):
+    if wide is None or not (_has_streams() and (command in _OF_TEXTS or _take_as_input(file)) and says(wide, f"bsonwide {__version__}\n".encode())):
         return
+    try:
+        execute(wide, [command, file if command in _OF_TEXTS else "-"])
+    except OSError:
+        pass  # The command says why it cannot be started.
+
+
+def execute(program: str, words: list[str]) -> None:
+    """Becomes a program, with the signals as the shell gave them; an error if it cannot be started."""
     for number in _IGNORED:
         signal.signal(number, signal.SIG_DFL)
     try:
-        os.execv(wide, [wide, rest[0], _COMMANDS[rest[0]]])
+        os.execv(program, [program, *words])
     except OSError:
         for number in _IGNORED:
-            signal.signal(number, signal.SIG_IGN)  # The command says why it cannot be started.
+            signal.signal(number, signal.SIG_IGN)
+        raise
 
 
 def _has_streams() -> bool:
