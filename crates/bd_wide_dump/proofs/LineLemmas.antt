@@ -1,7 +1,8 @@
 -- Texts of documents and arrays, piece by piece.
-use Rattle.std.proofs.Common.{◌≡◌, ℕ, ◌+◌, Bool, true, false, List, [], ◌∷◌, ◌++◌, length, take, drop, None, Result, Ok, Err, refl, sym, ap, subst, ◌∙◌, append_assoc, arith}
+use Rattle.std.proofs.Common.{◌≡◌, ℕ, ◌+◌, ◌≤◌, Bool, true, false, List, [], ◌∷◌, ◌++◌, length, take, drop, None, Result, Ok, Err, refl, sym, ap, subst, ◌∙◌, append_assoc, arith}
 use Rattle.std.proofs.lemmas.List.{take_all}
-use Rattle.std.specs.Prelude.{IfOk, codes}
+use Rattle.std.specs.Io.{StartsWith}
+use Rattle.std.specs.Prelude.{IfOk, OnErr, codes}
 use Rattle.std.specs.{List.join_with_byte, Result.result_err}
 use Rattle.bd_value.specs.Tree.{Tree, doc, array, code_scope, Fields, no_fields, field, Doc, fields_of}
 use Rattle.bd_bson_check.specs.Fault.{Fault}
@@ -10,11 +11,12 @@ use Rattle.bd_bson_check.specs.declared.profile.Profile.TheVariants.{All}
 use Rattle.bd_bson_check.proofs.WideLemmas.{document_by_value}
 use Rattle.bd_extjson_text.specs.Text.{quoted, escape_byte, member, object, listed}
 use Rattle.bd_extjson_text.specs.Buffer.{Appends}
+use Rattle.bd_extjson_text.proofs.BufferLemmas.{splits, rises, prefix}
 use Rattle.bd_extjson_text.proofs.TextLemmas.{before, to_come, to_come-all, piece_step}
 use Rattle.bd_bson_view.specs.Spelling.{NumberKind, IsDocumentBy, valued}
 use Rattle.bd_bson_view.specs.Unique.{number_after}
 use Rattle.bd_wide_dump.specs.Raw.{raw}
-use Rattle.bd_wide_dump.specs.WideText.{AreBytes, IsLineOf, IsNumberText, IsTextOf, AreTexts, AreMembers}
+use Rattle.bd_wide_dump.specs.WideText.{AreBytes, IsNumberText, IsTextOf, IsTextOfBytes, AreTexts, AreMembers}
 use Rattle.bd_bson_view.specs.declared.raw_parts.ElementType.{ElementType}
 use Rattle.bd_wide_dump.specs.inside.Begins.{values_in, HasElements, HasValue, IsElement, AppendsText, AppendsNumber}
 
@@ -62,6 +64,30 @@ finished tree Remain later close old mid new end at (Ok e) none goes put =
     let g = goes [] none in
     record { text = g.0; is = g.1; written = put.0 ∙ g.2; inside = put.1 }
 finished tree Remain later close old mid new end at (Err e) none goes put = tt
+
+-- ---- the bytes before the text, on an error
+
+-- what holds in any case holds on an error
+pub on_err : {E P : Type 0} (r : Result ℕ E) → P → OnErr r P
+on_err (Ok e) h = tt
+on_err (Err e) h = h
+
+-- more is written later in the buffer
+pub kept : {E : Type 0} (end at : ℕ) (old out new bytes : List ℕ) (r : Result ℕ E) → end ≤ at → take end out ≡ take end old → Appends out at r new bytes
+    → OnErr r (take end new ≡ take end old)
+kept end at old out new bytes (Ok e) after same put = tt
+kept end at old out new bytes (Err e) after same put = splits end at new out after put ∙ same
+
+-- a part of a number is written
+pub number_in_part : (end : ℕ) (old out new lead : List ℕ) → end ≤ length old → out ≡ take end old ++ lead → StartsWith new out → take end new ≡ take end old
+number_in_part end old out new lead inside is begins = prefix end (length out) old lead new inside (begins ∙ is)
+
+-- what follows a number is written
+pub number_kept : {E : Type 0} (old mid new lead number tail : List ℕ) (end at : ℕ) (r : Result ℕ E) → end ≤ length old → mid ≡ (take end old ++ lead) ++ number → at ≡ length mid
+    → Appends mid at r new tail → OnErr r (take end new ≡ take end old)
+number_kept old mid new lead number tail end at r inside is all put =
+    let whole : take at mid ≡ take end old ++ (lead ++ number) = take_all at mid (omega (arith, all)) ∙ is ∙ append_assoc (take end old) lead number in
+    kept end at old mid new tail r (rises end at old (lead ++ number) mid inside whole) (prefix end at old (lead ++ number) mid inside whole) put
 
 -- ---- code with scope
 
@@ -132,6 +158,7 @@ module _ {E : Type 0} (bytes : List ℕ) (start at : ℕ) (later : Bool) (old mi
 
 -- ---- a number, between what precedes it and what follows it
 
+-- the text of a number is written
 pub number_done : {E : Type 0} (k : NumberKind) (bytes old mid new lead number tail : List ℕ) (end at : ℕ) (r : Result ℕ E) → mid ≡ (take end old ++ lead) ++ number → at ≡ length mid
     → IsNumberText k bytes (lead ++ (number ++ tail)) → Appends mid at r new tail → IfOk r (λ e. AppendsNumber k bytes old end e new)
 number_done k bytes old mid new lead number tail end at (Ok e) is all text put =
@@ -179,7 +206,12 @@ whole_elements d bytes is =
     let body = is.spells.0 in
     (record { fields = fields_of d; body = body; after = []; spell = is.spells.1; splits = ap (drop 4) is.spells.2 ∙ number_after (length body + 5) (body ++ 0 ∷ []) }, refl)
 
-pub line_is : (bytes old mid line : List ℕ) (at : ℕ) (d : Doc) (is : IsDocumentBy (valued raw) d bytes)
-    → AppendsText (doc (whole_elements d bytes is).0.fields) old 0 at mid → line ≡ take at mid ++ 10 ∷ [] → IsLineOf bytes line
+pub text_is : {E : Type 0} (r : Result ℕ E) (bytes old new : List ℕ) (end : ℕ) (d : Doc) (is : IsDocumentBy (valued raw) d bytes)
+    → IfOk r (λ to. AppendsText (doc (whole_elements d bytes is).0.fields) old end to new) → IfOk r (λ to. (text : List ℕ) × IsTextOfBytes bytes text × (take to new ≡ take end old ++ text))
 unfolding whole_elements
-line_is bytes old mid line at d is w put = (d, w.text, is, w.is, put ∙ ap (λ (x : List ℕ). x ++ 10 ∷ []) w.written)
+text_is (Ok to) bytes old new end d is w = (w.text, (d, is, w.is), w.written)
+text_is (Err e) bytes old new end d is w = tt
+
+pub text_within : {E : Type 0} (r : Result ℕ E) (tree : Tree) (old new : List ℕ) (end : ℕ) → IfOk r (λ to. AppendsText tree old end to new) → IfOk r (λ to. to ≤ length new)
+text_within (Ok to) tree old new end w = w.inside
+text_within (Err e) tree old new end w = tt

@@ -200,7 +200,8 @@ mutual
 -- the line of a document of the nineteen kinds
 pub plain_line : (d : Doc) (bytes line : List ℕ) → IsDocument d bytes → IsLineOf bytes line → line ≡ text (doc (fields_of d)) ++ 10 ∷ []
 plain_line d bytes line is l =
-    let w = l.2.spells in
-    let content : IsTyped (Kept kinds.Doc) bytes (doc (fields_of l.0)) = a_document (record { fields = fields_of l.0; body = w.0; is = refl; typed = refl; spell = w.1; frame = w.2 }) in
-    let e = value_agrees (doc (fields_of d)) (doc (fields_of l.0)) bytes bytes [] [] is.spells content refl in
-    l.4 ∙ ap (λ (x : List ℕ). x ++ 10 ∷ []) (e.1 l.1 l.3)
+    let t = l.1 in
+    let w = t.1.spells in
+    let content : IsTyped (Kept kinds.Doc) bytes (doc (fields_of t.0)) = a_document (record { fields = fields_of t.0; body = w.0; is = refl; typed = refl; spell = w.1; frame = w.2 }) in
+    let e = value_agrees (doc (fields_of d)) (doc (fields_of t.0)) bytes bytes [] [] is.spells content refl in
+    l.2 ∙ ap (λ (x : List ℕ). x ++ 10 ∷ []) (e.1 l.0 t.2)

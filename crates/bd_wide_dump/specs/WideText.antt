@@ -58,7 +58,10 @@ abbrev mutual
   AreMembers (field n t fs) members = (value : List ℕ) × (rest : List (List ℕ)) × IsTextOf t value × AreMembers fs rest
       × (members ≡ member n value ∷ rest)
 
+-- The bytes are a document of all types, and the text is that of the document.
+abbrev pub IsTextOfBytes : List ℕ → List ℕ → Type 0
+IsTextOfBytes bytes text = (d : Doc) × IsDocumentBy (valued raw) d bytes × IsTextOf (doc (fields_of d)) text
+
 -- The bytes are a document of all types, and the line is its text and a newline.
 abbrev pub IsLineOf : List ℕ → List ℕ → Type 0
-IsLineOf bytes line = (d : Doc) × (text : List ℕ) × IsDocumentBy (valued raw) d bytes × IsTextOf (doc (fields_of d)) text
-    × (line ≡ text ++ 10 ∷ [])
+IsLineOf bytes line = (text : List ℕ) × IsTextOfBytes bytes text × (line ≡ text ++ 10 ∷ [])

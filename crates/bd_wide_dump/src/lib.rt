@@ -12,7 +12,8 @@
 //! assert!(rt; line == b"{\"d\":{\"$numberDouble\":\"1.5\"}}\n".as_slice());
 //! ```
 //!
-//! - `line`: `WideTextBuffer`, the buffer of a line for one document after the other.
+//! - `line`: `append_wide`, the text of a document after what a buffer has, and `WideTextBuffer`, the buffer of a line for one
+//!   document after the other.
 //! - `element`: the next element of a document, read without a check.
 //! - `number`: doubles and decimal128.
 //! - `laws`: different numbers differ; bytes are at most one document; those of the nineteen kinds are printed as
@@ -25,4 +26,4 @@ mod line;
 mod number;
 
 pub use laws::{numbers_differ, one_wide_document, plain_lines};
-pub use line::WideTextBuffer;
+pub use line::{WideTextBuffer, append_wide};

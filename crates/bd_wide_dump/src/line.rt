@@ -1,13 +1,13 @@
-//! The line of a document: its text and a newline.
+//! The text of a document, and its line: the text and a newline.
 
-ghost use Rattle.std.specs.Prelude.{◌≡◌, ◌≤◌, ◌+◌, ℕ, None, length, drop, IfOk};
+ghost use Rattle.std.specs.Prelude.{◌≡◌, ◌≤◌, ◌+◌, ◌++◌, ℕ, List, None, length, take, drop, IfOk, OnErr};
 ghost use Rattle.bd_value.specs.Limits.{longest_document};
 ghost use Rattle.bd_value.specs.Tree.{Tree, array, doc};
 ghost use Rattle.bd_value.specs.declared.node.Kind.TheVariants as kinds;
 ghost use Rattle.bd_bson_view.specs.declared.raw_parts.ElementType.TheVariants.{Kept};
 ghost use Rattle.bd_bson_check.specs.FirstFault.{fault_under};
 ghost use Rattle.bd_bson_check.specs.declared.profile.Profile.TheVariants.{All};
-ghost use Rattle.bd_wide_dump.specs.WideText.{IsLineOf};
+ghost use Rattle.bd_wide_dump.specs.WideText.{IsLineOf, IsTextOfBytes};
 ghost use Rattle.bd_wide_dump.specs.inside.Begins.{AppendsText, HasElements, HasValue, values_in};
 
 use crate::element::element_at;
@@ -41,21 +41,39 @@ impl WideTextBuffer {
         requires { (base : ℕ) × (fault_under All base bytes.now ≡ None) }
         ensures { IfOk result (λ line. IsLineOf bytes.now line.now) }
     {
-        let end = append_fields(bytes, 4, &mut self.buffer, 0)?;
+        let end = append_wide(bytes, &mut self.buffer, 0)?;
         let end = append_few(b"\n", &mut self.buffer, end)?;
         Ok(&self.buffer[..end])
     }
 }
 
-/// Appends the text of the document of the elements at an offset.
+/// Appends the text of a document of all types, whose bytes have no fault, after the first `end` bytes of a buffer, and returns
+/// where the text ends: Extended JSON v2, canonical form, without white space. There is no newline after it.
+///
+/// On `NoMemory` those `end` bytes are unchanged.
+#[inline(always)]
+pub fn append_wide(bytes: &[u8], buffer: &mut Vec<u8>, end: usize) -> End
+    requires sound { (base : ℕ) × (fault_under All base bytes.now ≡ None) }
+    requires buffer { end ≤ length buffer.old.items }
+    ensures text { IfOk result (λ to. (text : List ℕ) × IsTextOfBytes bytes.now text
+        × (take to buffer.new.items ≡ take end buffer.old.items ++ text)) }
+    ensures within { IfOk result (λ to. to ≤ length buffer.new.items) }
+    ensures err { OnErr result (take end buffer.new.items ≡ take end buffer.old.items) }
+{
+    append_fields(bytes, 4, buffer, end)
+}
+
+/// Appends the text of the document of the elements at an offset. On `NoMemory` the first `end` bytes are unchanged, and so in
+/// the functions below.
 #[cycle(wide)]
 #[inline(never)]
 fn append_fields(bytes: &[u8], start: usize, out: &mut Vec<u8>, end: usize) -> End
     requires short { length bytes.now ≤ longest_document }
     requires elements { HasElements (drop start bytes.now) }
     requires buffer { end ≤ length out.old.items }
-    ensures { (e : HasElements (drop start bytes.now)) → IfOk result (λ to.
+    ensures text { (e : HasElements (drop start bytes.now)) → IfOk result (λ to.
         AppendsText (doc e.fields) out.old.items end to out.new.items) }
+    ensures err { OnErr result (take end out.new.items ≡ take end out.old.items) }
 {
     let mut at = append_few(b"{", out, end)?;
     let mut later = false;
@@ -76,8 +94,9 @@ fn append_items(bytes: &[u8], start: usize, out: &mut Vec<u8>, end: usize) -> En
     requires short { length bytes.now ≤ longest_document }
     requires elements { HasElements (drop start bytes.now) }
     requires buffer { end ≤ length out.old.items }
-    ensures { (e : HasElements (drop start bytes.now)) → IfOk result (λ to.
+    ensures text { (e : HasElements (drop start bytes.now)) → IfOk result (λ to.
         AppendsText (array (values_in e.fields)) out.old.items end to out.new.items) }
+    ensures err { OnErr result (take end out.new.items ≡ take end out.old.items) }
 {
     let mut at = append_few(b"[", out, end)?;
     let mut later = false;
@@ -105,8 +124,9 @@ fn append_value(
     requires inside { start ≤ length bytes.now }
     requires value { (tree : Tree) × HasValue typed (drop start bytes.now) tree }
     requires buffer { end + VALUE ≤ length out.old.items }
-    ensures { (tree : Tree) → HasValue typed (drop start bytes.now) tree → IfOk result (λ to.
+    ensures text { (tree : Tree) → HasValue typed (drop start bytes.now) tree → IfOk result (λ to.
         AppendsText tree out.old.items end to out.new.items) }
+    ensures err { OnErr result (take end out.new.items ≡ take end out.old.items) }
 {
     match typed {
         ElementType::Double => append_double(bytes, start, out, end),
@@ -123,8 +143,9 @@ fn append_kept(kind: Kind, bytes: &[u8], start: usize, out: &mut Vec<u8>, end: u
     requires inside { start ≤ length bytes.now }
     requires value { (tree : Tree) × HasValue (Kept kind) (drop start bytes.now) tree }
     requires buffer { end + VALUE ≤ length out.old.items }
-    ensures { (tree : Tree) → HasValue (Kept kind) (drop start bytes.now) tree →
+    ensures text { (tree : Tree) → HasValue (Kept kind) (drop start bytes.now) tree →
         IfOk result (λ to. AppendsText tree out.old.items end to out.new.items) }
+    ensures err { OnErr result (take end out.new.items ≡ take end out.old.items) }
 {
     match kind {
         Kind::Doc => append_fields(bytes, start + 4, out, end),
@@ -141,8 +162,9 @@ fn append_scope(bytes: &[u8], start: usize, out: &mut Vec<u8>, end: usize) -> En
     requires short { length bytes.now ≤ longest_document }
     requires value { (tree : Tree) × HasValue (Kept kinds.CodeScope) (drop start bytes.now) tree }
     requires buffer { end ≤ length out.old.items }
-    ensures { (tree : Tree) → HasValue (Kept kinds.CodeScope) (drop start bytes.now) tree →
+    ensures text { (tree : Tree) → HasValue (Kept kinds.CodeScope) (drop start bytes.now) tree →
         IfOk result (λ to. AppendsText tree out.old.items end to out.new.items) }
+    ensures err { OnErr result (take end out.new.items ≡ take end out.old.items) }
 {
     let (_, here) = bytes.split_at(start + 4);
     let code = parts::text(here);

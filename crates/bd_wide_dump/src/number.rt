@@ -1,6 +1,6 @@
 //! Doubles and decimal128, each as its row of the conversion table of Extended JSON v2.
 
-ghost use Rattle.std.specs.Prelude.{◌≡◌, ◌≤◌, ◌+◌, ◌++◌, ℕ, List, length, take, drop, IfOk};
+ghost use Rattle.std.specs.Prelude.{◌≡◌, ◌≤◌, ◌+◌, ◌++◌, ℕ, List, length, take, drop, IfOk, OnErr};
 ghost use Rattle.bd_bson_view.specs.Sizes.{long_of};
 ghost use Rattle.bd_bson_view.specs.Spelling.{as_decimal128, as_double};
 ghost use Rattle.bd_wide_dump.specs.inside.Begins.{AppendsNumber};
@@ -24,8 +24,9 @@ fn long(bytes: &[u8]) -> u64
 pub(crate) fn append_double(bytes: &[u8], start: usize, out: &mut Vec<u8>, end: usize) -> End
     requires value { 8 ≤ length (drop start bytes.now) }
     requires buffer { end ≤ length out.old.items }
-    ensures { IfOk result (λ e.
+    ensures text { IfOk result (λ e.
         AppendsNumber as_double (drop start bytes.now) out.old.items end e out.new.items) }
+    ensures err { OnErr result (take end out.new.items ≡ take end out.old.items) }
 {
     let (_, value) = bytes.split_at(start);
     let at = append_few(b"{\"$numberDouble\":\"", out, end)?;
@@ -40,8 +41,9 @@ pub(crate) fn append_double(bytes: &[u8], start: usize, out: &mut Vec<u8>, end: 
 pub(crate) fn append_decimal128(bytes: &[u8], start: usize, out: &mut Vec<u8>, end: usize) -> End
     requires value { 16 ≤ length (drop start bytes.now) }
     requires buffer { end ≤ length out.old.items }
-    ensures { IfOk result (λ e.
+    ensures text { IfOk result (λ e.
         AppendsNumber as_decimal128 (drop start bytes.now) out.old.items end e out.new.items) }
+    ensures err { OnErr result (take end out.new.items ≡ take end out.old.items) }
 {
     let (_, value) = bytes.split_at(start);
     let (_, high) = value.split_at(8);

@@ -1,4 +1,4 @@
-use Rattle.std.proofs.Common.{◌+◌, ◌-◌, ◌*◌, ◌≤◌, length, take}
+use Rattle.std.proofs.Common.{◌+◌, ◌-◌, ◌*◌, ◌≡◌, ◌≤◌, length, take}
 use Rattle.bd_wide_dump.proofs.LineLemmas.{FieldsGo, ItemsGo}
 use Rattle.bd_wide_dump.proofs.line.+wide.Given as goal
 
@@ -21,7 +21,9 @@ decreases-append_items l = 4 * (length l.bytes.now - l.start) + 3
 abbrev pub invariant-append_fields-loop-element : goal.invariant-append_fields-loop-element
 invariant-append_fields-loop-element l = record {
   goes : FieldsGo l.bytes l.start l.next l.later (take l.end l.fn.out.items) (take l.at l.out.items);
+  unchanged : take l.end l.out.items ≡ take l.end l.fn.out.items;
   inside : l.at ≤ length l.out.items;
+  after : l.end ≤ l.at;
   behind : l.start ≤ l.next;
 }
 
@@ -31,7 +33,9 @@ decreases-append_fields-loop-element l = length l.bytes - l.next
 abbrev pub invariant-append_items-loop-element : goal.invariant-append_items-loop-element
 invariant-append_items-loop-element l = record {
   goes : ItemsGo l.bytes l.start l.next l.later (take l.end l.fn.out.items) (take l.at l.out.items);
+  unchanged : take l.end l.out.items ≡ take l.end l.fn.out.items;
   inside : l.at ≤ length l.out.items;
+  after : l.end ≤ l.at;
   behind : l.start ≤ l.next;
 }
 
