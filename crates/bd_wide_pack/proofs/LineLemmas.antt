@@ -1,43 +1,29 @@
 -- A line by its two texts.
-use Rattle.std.proofs.Common.{◌≡◌, ◌≤◌, ◌<◌, ◌⊎◌, inl, inr, ℕ, nat_lt, ◌==◌, ◌&&◌, not, Bool, true, false, ◌||◌, cond, List, [], ◌∷◌, ◌++◌, length, refl, sym, ap, ◌∙◌, subst, Option, Some, None, Result, Ok, Err, IfOk}
-use Rattle.std.specs.Option.{ok_or}
+use Rattle.std.proofs.Common.{◌≡◌, ◌≤◌, ◌<◌, ◌⊎◌, inl, inr, ℕ, List, [], ◌++◌, length, refl, sym, ap, ◌∙◌, subst, Option, Some, None, Result, Ok, Err, IfOk}
 use Rattle.std.specs.Prelude.{IfSome}
 use Rattle.bd_value.specs.{Limits.longest_document, Tree.Doc}
 use Rattle.bd_bson_view.specs.Spelling.{IsDocument}
-use Rattle.bd_extjson.specs.Read.{ReadsAs, reading}
-use Rattle.bd_extjson_fault.specs.TextFault.{text_fault}
 use Rattle.bd_extjson_fault.specs.declared.json_fault.JsonFault.{JsonFault}
 use Rattle.bd_extjson_pack.specs.Packable as plainly
 use Rattle.bd_extjson_pack.specs.Packable.{IsPackable, plain}
 use Rattle.bd_extjson_pack.specs.declared.line.LineFault.{LineFault}
 use Rattle.bd_extjson_pack.specs.declared.line.LineFault.TheVariants as faults
 use Rattle.bd_wide_number.specs.declared.number.Number.{Number}
-use Rattle.bd_wide_pack.specs.WideLine.{IsBad, IsMixed, IsPacked, IsRead, both, both_documents, document_of, earlier, has_no_byte, is_bad_wrapper}
+use Rattle.bd_wide_pack.specs.WideLine.{IsBad, IsMixed, IsPacked}
 use Rattle.bd_wide_pack.specs.inside.Outcome.{AreOutcome, HasTexts, IsNotMixed, IsOutcome, IsReportedAs, first_of}
 use Rattle.bd_wide_pack.proofs.PlainLemmas.{plain_mixed}
-use Rattle.bd_wide_substitute.specs.Substitutes.{ArePieces, Filler, Piece, all_numbers, number, same, text, whole, with_fillers}
+use Rattle.bd_wide_substitute.specs.Both.{IsRead, both_documents, document_of}
+use Rattle.bd_wide_substitute.specs.Substitutes.{ArePieces, Piece, all_numbers, text, whole, with_fillers}
 use Rattle.bd_wide_substitute.specs.declared.scan.Substituted.{Substituted}
+use Rattle.bd_wide_substitute.proofs.BothLemmas.{both_is, earlier_same, no_numbers, read_ok, unread}
 
 -- ---- one text
-
-read_ok : (source : List ℕ) (d : Doc) → ReadsAs source d → document_of source ≡ Ok d
-read_ok source d e = ap (λ (r : Option Doc). ok_or r (text_fault source)) e
-
-unread : (source : List ℕ) (f : JsonFault) → ((d : Doc) → ReadsAs source d → ⊥) → f ≡ text_fault source → document_of source ≡ Err f
-unread source f none is = go (reading source) refl
-  where
-    go : (r : Option Doc) → reading source ≡ r → document_of source ≡ Err f
-    go None e = ap (λ (r : Option Doc). ok_or r (text_fault source)) e ∙ ap (λ (g : JsonFault). Err g) (sym is)
-    go (Some d) e = absurd (none d e)
 
 bad_outcome : (source bytes : List ℕ) (f : LineFault) → plainly.IsBad source f → IsOutcome source bytes (Some f)
 bad_outcome source bytes (faults.Unread f) bad = unread source f bad.0 bad.1
 bad_outcome source bytes faults.TooLong bad = (bad.0, read_ok source bad.0 bad.1, bad.2)
 
 -- ---- both texts
-
-both_is : (ps : List Piece) (w t : Result Doc JsonFault) → document_of (with_fillers whole ps) ≡ w → document_of (with_fillers text ps) ≡ t → both_documents ps ≡ both w t
-both_is ps w t e f = λ i. both (e i) (f i)
 
 pub outcomes : (ps : List Piece) (wholes texts : List ℕ) (one other : Option LineFault) → IsOutcome (with_fillers whole ps) wholes one → IsOutcome (with_fillers text ps) texts other
     → AreOutcome ps wholes texts (first_of one other)
@@ -88,11 +74,6 @@ module _ (line : List ℕ) (pieces : List Piece) (numbers : List Number) (are : 
 
 -- ---- a line without numbers
 
-no_numbers : (s : Filler) (line : List ℕ) (ps : List Piece) → ArePieces line ps → all_numbers ps ≡ [] → with_fillers s ps ≡ line
-no_numbers s line [] are e = sym are
-no_numbers s line (same bytes ∷ ps) are e = ap (λ (x : List ℕ). bytes ++ x) (no_numbers s are.0 ps are.3 e) ∙ sym are.1
-no_numbers s line (number bytes n ∷ ps) are e = absurd (let c : n ∷ all_numbers ps ≡ [] = e in cc)
-
 -- both texts are the line
 pub plain_outcome : (line bytes : List ℕ) (ps : List Piece) → ArePieces line ps → all_numbers ps ≡ [] → (o : Option LineFault) → IsOutcome line bytes o → AreOutcome ps bytes bytes o
 plain_outcome line bytes ps are none o h =
@@ -100,15 +81,6 @@ plain_outcome line bytes ps are none o h =
     let other = subst (λ (x : List ℕ). IsOutcome x bytes o) (sym (no_numbers text line ps are none)) h in
     subst (λ (f : Option LineFault). AreOutcome ps bytes bytes f) (first_same o) (outcomes ps bytes bytes o o one other)
   where
-    always : (f : JsonFault) (b c d : Bool) → cond b f (cond c f (cond d f f)) ≡ f
-    always f true c d = refl
-    always f false true d = refl
-    always f false false true = refl
-    always f false false false = refl
-
-    earlier_same : (f : JsonFault) → earlier f f ≡ f
-    earlier_same f = always f (has_no_byte f.kind) (has_no_byte f.kind || nat_lt f.at f.at) (f.at == f.at && not (is_bad_wrapper f.kind))
-
     first_same : (o : Option LineFault) → first_of o o ≡ o
     first_same None = refl
     first_same (Some (faults.Unread f)) = ap (λ (g : JsonFault). Some (faults.Unread g)) (earlier_same f)

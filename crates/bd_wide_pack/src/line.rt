@@ -1,18 +1,18 @@
 //! A line of Extended JSON with doubles and decimal128 as the bytes of the document that it is.
 
-ghost use Rattle.std.specs.Prelude.{◌≡◌, ◌≤◌, ◌++◌, List, [], ℕ, IfOk, IfSome, OnErr, Ok, None, length};
+ghost use Rattle.std.specs.Prelude.{◌≡◌, ◌≤◌, ◌++◌, List, ℕ, IfOk, IfSome, OnErr, Ok, None, length};
 ghost use Rattle.bd_value.specs.{Limits.longest_document, Tree.Doc};
 ghost use Rattle.bd_bson_view.specs.Spelling.{IsDocument};
-ghost use Rattle.bd_wide_pack.specs.WideLine.{IsBad, IsMixed, IsPacked, earlier as earlier_of, has_no_byte as has_no_byte_of, is_bad_wrapper as is_bad_wrapper_of};
+ghost use Rattle.bd_wide_pack.specs.WideLine.{IsBad, IsMixed, IsPacked};
 ghost use Rattle.bd_wide_pack.specs.inside.Outcome.{HasTexts, IsNotMixed, IsOutcome, IsReportedAs, first_of};
-ghost use Rattle.bd_wide_substitute.specs.Substitutes.{ArePieces, Piece, all_numbers};
+ghost use Rattle.bd_wide_substitute.specs.Both.{HasNoNumbers};
 
 use crate::step::mix;
 use bd_extjson_fault::{JsonFault, JsonFaultKind};
 use bd_extjson_pack::{LineFault, Packer, packs_documents};
 use bd_value::{LONGEST_DOCUMENT, NoMemory};
 use bd_wide_number::Number;
-use bd_wide_substitute::{Substituted, fault_of_line, substitute};
+use bd_wide_substitute::{Substituted, earlier, fault_of_line, substitute};
 use std::alloc::Global;
 
 /// Packs lines with numbers of all types. It reuses its buffers from line to line, and has no other state.
@@ -66,7 +66,7 @@ impl WidePacker {
 
     /// The same for a line without doubles and decimal128: its bytes are those of its document of nineteen types.
     fn pack_plain(&mut self, line: &[u8], out: &mut Vec<u8>) -> Result<Option<LineFault>, NoMemory>
-        requires { (pieces : List Piece) × ArePieces line.now pieces × (all_numbers pieces ≡ []) }
+        requires { HasNoNumbers line.now }
         ensures packed { result ≡ Ok None → (bytes : List ℕ) × IsPacked line.now bytes
             × (out.new.items ≡ out.old.items ++ bytes) }
         ensures bad { IfOk result (λ o. IfSome o (λ f. IsBad line.now f
@@ -175,34 +175,4 @@ fn first_fault(whole: Option<LineFault>, text: Option<LineFault>) -> Option<Line
         (None, None) => None,
         _ => Some(LineFault::TooLong),
     }
-}
-
-/// The earlier of two faults, by their bytes. At one byte a bad wrapper is first; that a text is no document comes last.
-fn earlier(one: JsonFault, other: JsonFault) -> JsonFault
-    ensures { result ≡ earlier_of one other }
-{
-    if has_no_byte(one) {
-        return other;
-    }
-    if has_no_byte(other) || one.at < other.at {
-        return one;
-    }
-    if one.at == other.at && !is_bad_wrapper(other) {
-        return one;
-    }
-    other
-}
-
-/// Whether a fault has no byte, since the text as a whole is no document.
-fn has_no_byte(fault: JsonFault) -> bool
-    ensures { result ≡ has_no_byte_of fault.kind }
-{
-    matches!(fault.kind, JsonFaultKind::NotADocument)
-}
-
-/// Whether an object is not the wrapper that its name says.
-fn is_bad_wrapper(fault: JsonFault) -> bool
-    ensures { result ≡ is_bad_wrapper_of fault.kind }
-{
-    matches!(fault.kind, JsonFaultKind::BadWrapper)
 }

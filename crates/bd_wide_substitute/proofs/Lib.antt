@@ -1,1 +1,4 @@
+pub mod BothLemmas
+pub mod MeaningLemmas
+pub mod OnceLemmas
 pub mod PieceLemmas

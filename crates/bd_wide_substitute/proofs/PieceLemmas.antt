@@ -1,21 +1,20 @@
 -- The pieces of a text.
-use Rattle.std.proofs.Common.{◌≡◌, ◌≢◌, ◌<◌, ◌≤◌, ℕ, ◌+◌, ◌-◌, ◌==◌, ◌||◌, Bool, true, false, cond, nat_eq, List, [], ◌∷◌, ◌++◌, length, take, drop, refl, sym, ap, ◌∙◌, subst, inl, inr, arith, Ok, codes, append-nil, append_assoc, length-append, take_at, drop_at, take-append-drop, Result, Err, IfOk, OnOk, Option, Some, None, option_map, option_and_then, length-take, rules}
+use Rattle.std.proofs.Common.{◌≡◌, ◌≢◌, ◌<◌, ◌≤◌, ℕ, ◌+◌, ◌-◌, ◌==◌, ◌||◌, Bool, true, false, cond, nat_eq, List, [], ◌∷◌, ◌++◌, length, take, drop, refl, sym, ap, ◌∙◌, subst, inl, inr, arith, Ok, codes, append-nil, append_assoc, length-append, take_at, drop_at, take-append-drop, Result, Err, Option, Some, None, option_map, option_and_then, length-take, rules}
 use Rattle.std.proofs.lemmas.{Bool.Decides.nat_tests}
 use Rattle.std.specs.{List.list_any}
 use Rattle.std.specs.{Cmp.Lexicographic.pointwise, Cmp.Lexicographic.bytes_decides, Option.option_map_or}
 use Rattle.bd_wide_number.specs.declared.number.Number.{Number}
-use Rattle.bd_wide_number.specs.declared.number.Number.TheVariants.{Whole, Double, Decimal128}
-use Rattle.bd_wide_read.specs.DecimalText as numerics
-use Rattle.bd_wide_read.specs.DecimalText.{IsRead, Numeric, numeric_of}
+use Rattle.bd_wide_number.specs.declared.number.Number.TheVariants.{Double}
 use Rattle.bd_wide_read.specs.DoubleText.{number_bits}
 use Rattle.bd_wide_read.specs.declared.fault.TextFault.{TextFault}
 use Rattle.bd_wide_read.specs.JsonNumber.{is_number}
-use Rattle.bd_wide_read.specs.declared.fault.TextFault.TheVariants.{BadText, OutOfRange}
+use Rattle.bd_wide_read.specs.declared.fault.TextFault.TheVariants.{BadText}
 use Rattle.bd_wide_substitute.specs.declared.scan.Substituted.{Substituted}
 use Rattle.bd_wide_substitute.specs.declared.wrapped.NumberType.{NumberType}
 use Rattle.bd_wide_substitute.specs.declared.wrapped.NumberType.TheVariants as types
 use Rattle.bd_wide_substitute.specs.Substitutes.{ArePieces, BeginsNumber, IsBare, IsBefore, IsMeant, IsNoDouble, IsRun, Piece, Wrapper, same, number, Filler, filler_of, after, after_string, after_word, all_numbers, before_brace, is_blank, is_no_quote, is_of_number, last_string, numbers_in, original, filled, quoted, quoted_before, strip, text, whole, with_fillers, wrapper_at, wrapper_inside}
 use Rattle.bd_wide_substitute.specs.inside.Taken.{AreTaken, IsFound, IsPiece}
+use Rattle.bd_wide_substitute.proofs.MeaningLemmas.{meant_once}
 
 -- ---- what passes a test, and what follows
 
@@ -350,20 +349,8 @@ object_of (c ∷ inside) contents rest type e =
 
 -- ---- what contents mean
 
-read_once : (r : Numeric) (bits : ℕ × ℕ) (f : TextFault) → IsRead r (Ok bits) → IsRead r (Err f) → ⊥
-read_once (numerics.number negative n) bits OutOfRange h k = k h.0 h.1 h.2.worth
-read_once (numerics.number negative n) bits BadText h k = k
-read_once (numerics.infinity negative) bits f h k = absurd cc
-read_once numerics.not_a_number bits f h k = absurd cc
-read_once numerics.none bits f h k = absurd cc
-
-meant_once : (type : NumberType) (contents : List ℕ) (n : Number) (f : TextFault) → IsMeant type contents (Ok n) → IsMeant type contents (Err f) → ⊥
-meant_once types.Double contents (Whole z) f h k = h
-meant_once types.Double contents (Double bits) f h k = let e : Ok bits ≡ Err f = sym h ∙ k in absurd cc
-meant_once types.Double contents (Decimal128 low high) f h k = h
-meant_once types.Decimal128 contents (Whole z) f h k = h
-meant_once types.Decimal128 contents (Double bits) f h k = h
-meant_once types.Decimal128 contents (Decimal128 low high) f h k = read_once (numeric_of contents) (low, high) f h k
+never_both : (n : Number) (f : TextFault) (r : Result Number TextFault) → Ok n ≡ r → r ≡ Err f → ⊥
+never_both n f r e h = let both : Ok n ≡ Err f = e ∙ h in cc
 
 pub never_begins : (bytes contents rest : List ℕ) (type : NumberType) (f : TextFault) → wrapper_at bytes ≡ Some (type, Some (contents, rest)) → IsMeant type contents (Err f)
     → (n : Number) (more : List ℕ) → BeginsNumber bytes n more → ⊥
@@ -372,4 +359,5 @@ never_begins bytes contents rest type f e k n more h =
     let one : h.0 ≡ type = ap (λ (w : Wrapper). w.0) same in
     let string : Some (h.1, more) ≡ Some (contents, rest) = ap (λ (w : Wrapper). w.1) same in
     let two : h.1 ≡ contents = ap (λ (p : List ℕ × List ℕ). p.0) (some_is (h.1, more) (contents, rest) string) in
-    meant_once type contents n f (subst (λ (t : NumberType). IsMeant t contents (Ok n)) one (subst (λ (x : List ℕ). IsMeant h.0 x (Ok n)) two h.3)) k
+    let meant : IsMeant type contents (Ok n) = subst (λ (t : NumberType). IsMeant t contents (Ok n)) one (subst (λ (x : List ℕ). IsMeant h.0 x (Ok n)) two h.3) in
+    never_both n f (Err f) (meant_once type contents (Ok n) (Err f) meant k) refl

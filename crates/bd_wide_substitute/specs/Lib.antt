@@ -1,3 +1,4 @@
+pub mod Both
 pub mod Made
 pub mod Reported
 pub mod Substitutes

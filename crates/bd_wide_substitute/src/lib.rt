@@ -7,6 +7,7 @@
 //! number stays, and is refused in both.
 //!
 //! What the two texts are: `specs/Substitutes.antt`, `specs/Made.antt`. What a fault of one of them says of the line: `specs/Reported.antt`.
+//! Which two documents, or which fault, they are together: `specs/Both.antt`.
 //!
 //! An example, which `bd_wide_read_tests` proves and runs as `examples::substituted`:
 //!
@@ -20,14 +21,20 @@
 //!
 //! - `scan`: `substitute`, from the start of a text to its end.
 //! - `wrapped`: the wrappers of numbers.
+//! - `both`: `earlier`, the first of the faults of both texts.
 //! - `reported`: what is wrong with a line, by what is wrong with a text.
 //! - `blank`: the parts of a text that are skipped.
+//! - `laws`: a text is read once, and one without such numbers as it is.
 #![tactic(auto)]
 
 mod blank;
+mod both;
+mod laws;
 mod reported;
 mod scan;
 mod wrapped;
 
+pub use both::earlier;
+pub use laws::{texts_are_read_once, texts_without_numbers_stay};
 pub use reported::fault_of_line;
 pub use scan::{Substituted, substitute};

@@ -9,11 +9,12 @@ use Rattle.bd_extjson_pack.specs.declared.line.LineFault.TheVariants as faults
 use Rattle.bd_extjson_fault.specs.declared.json_fault.JsonFaultKind.TheVariants as kinds
 use Rattle.bd_wide_number.specs.declared.number.Number.{Number}
 use Rattle.bd_wide_pack.specs.Filled.{AreFilled}
+use Rattle.bd_wide_substitute.specs.Both.{both_documents, document_of, earlier}
 use Rattle.bd_wide_substitute.specs.Substitutes.{ArePieces, Piece}
 use Rattle.bd_wide_substitute.specs.Made.{IsMade}
 use Rattle.bd_wide_substitute.specs.Reported.{IsReported}
 use Rattle.bd_wide_substitute.specs.declared.scan.Substituted.{Substituted}
-use Rattle.bd_wide_pack.specs.WideLine.{IsMixed, both_documents, document_of, earlier}
+use Rattle.bd_wide_pack.specs.WideLine.{IsMixed}
 
 -- The text is a document, and these are its bytes; or this is why it is not packed.
 abbrev pub IsOutcome : List ℕ → List ℕ → Option LineFault → Type 0

@@ -2,7 +2,7 @@
 use Rattle.std.specs.Prelude.{◌≡◌, ◌≤◌, ℕ, List, ◌++◌, length, take, drop, Option, Some, None}
 use Rattle.bd_wide_number.specs.declared.number.Number.{Number}
 use Rattle.bd_wide_substitute.specs.declared.scan.Substituted.{Substituted}
-use Rattle.bd_wide_substitute.specs.Substitutes.{ArePieces, IsBefore, Piece, all_numbers, number, original, same, text, whole, with_fillers}
+use Rattle.bd_wide_substitute.specs.Substitutes.{ArePieces, IsBefore, Piece, all_numbers, number, same, text, whole, with_fillers}
 
 -- The first n bytes are this piece.
 abbrev pub IsPiece : List ℕ → ℕ → Option Number → Piece → Type 0
