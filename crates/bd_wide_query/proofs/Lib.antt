@@ -1,5 +1,10 @@
+pub mod AlikeLemmas
+pub mod ExcludeLemmas
 pub mod NameLemmas
+pub mod NanLemmas
 pub mod NumberLemmas
+pub mod ReadLemmas
+pub mod RelateLemmas
 pub mod RoleLemmas
 pub mod StepLemmas
 pub mod TagLemmas

@@ -1,3 +1,4 @@
 pub mod Coded
+pub mod Nan
 pub mod Tagged
 pub mod inside

@@ -1,2 +1,4 @@
 pub mod Coding
+pub mod Read
 pub mod Role
+pub mod TypesAlike

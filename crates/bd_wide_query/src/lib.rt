@@ -1,11 +1,13 @@
 //! Queries with doubles and decimal128: their documents with the code of each number that they compare with.
 //!
 //! A query comes as two documents. In one each double and decimal128 is the int32 0, in the other the empty text; all else is equal. Both
-//! are read in step, so each value in which they differ so is the next of the numbers.
+//! are read in step, so each value in which they differ so is the next of the numbers. `bd_wide_substitute` defines which documents a
+//! text is, or which fault it has.
 //!
 //! - The document of both with tags for the numbers: `specs/Tagged.antt`.
 //! - The document of a query by value, and with codes: `specs/Coded.antt`. Which numbers are compared with is what `renumber_query` of
 //!   `bd_wide_order` says, so its laws hold of what is made here.
+//! - NaN in `$lt`, `$lte`, `$gt` and `$gte`, where it is neither below nor above a number: `specs/Nan.antt`.
 //!
 //! An example, which `bd_wide_query_tests` proves and runs as `examples::between_two`:
 //!
@@ -15,22 +17,31 @@
 //!     numbers.push(number)?;
 //! }
 //! let table = numbers.into_table().expect(&rt, "few numbers");
-//! // {"a":{"$gt":1.5,"$size":2}}
-//! let wholes = read_doc(alloc, b"{\"a\":{\"$gt\":0,\"$size\":2}}")?;
-//! let texts = read_doc(alloc, b"{\"a\":{\"$gt\":\"\",\"$size\":2}}")?;
-//! let doubles = [Number::Double(0x3ff8_0000_0000_0000)];
-//! let coded = code_query(alloc, &wholes, &texts, &doubles, &table)?.expect(&rt, "a query");
+//! let query = read_query(alloc, b"{\"a\":{\"$gt\":1.5,\"$size\":2}}")?;
+//! let coded = code_query(alloc, &query.wholes, &query.texts, &query.numbers, &table)?;
 //! let mut text = Vec::new(alloc);
-//! write_doc(&coded, &mut text)?;
+//! write_doc(&coded.expect(&rt, "a query"), &mut text)?;
 //! let wanted = b"{\"a\":{\"$gt\":{\"$numberLong\":\"2\"},\"$size\":{\"$numberInt\":\"2\"}}}";
 //! assert!(rt; text.as_slice() == wanted.as_slice());
 //! ```
 //!
+//! - `alike`: `types_alike`, whether a filter distinguishes int32 from int64.
 //! - `coded`: `code_query`, and the values of both documents in step.
+//! - `laws`: a filter beside NaN by value, and the same filter with codes.
+//! - `nan`: `exclude_nan`, the filter with codes beside NaN.
+//! - `read`: `read_query`, the two documents of a text and its numbers.
 //! - `role`: what a value of a query is: whether it is compared with.
 #![tactic(auto)]
 
+mod alike;
 mod coded;
+mod laws;
+mod nan;
+mod read;
 mod role;
 
+pub use alike::types_alike;
 pub use coded::code_query;
+pub use laws::{numbers_relate_beside_nan, renumbered_beside_nan, types_stay_alike};
+pub use nan::exclude_nan;
+pub use read::{WideQuery, read_query};

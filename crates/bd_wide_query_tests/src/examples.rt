@@ -1,8 +1,7 @@
 //! The example of use in the root of `bd_wide_query`.
-use bd_extjson::read_doc;
 use bd_extjson_text::write_doc;
 use bd_wide_number::Number;
-use bd_wide_query::code_query;
+use bd_wide_query::{code_query, read_query};
 use bd_wide_rank::Numbers;
 use std::test::Fail;
 
@@ -14,13 +13,10 @@ fn between_two(rt: HostRuntime) -> Result<(), Fail> {
         numbers.push(number)?;
     }
     let table = numbers.into_table().expect(&rt, "few numbers");
-    // {"a":{"$gt":1.5,"$size":2}}
-    let wholes = read_doc(alloc, b"{\"a\":{\"$gt\":0,\"$size\":2}}")?;
-    let texts = read_doc(alloc, b"{\"a\":{\"$gt\":\"\",\"$size\":2}}")?;
-    let doubles = [Number::Double(0x3ff8_0000_0000_0000)];
-    let coded = code_query(alloc, &wholes, &texts, &doubles, &table)?.expect(&rt, "a query");
+    let query = read_query(alloc, b"{\"a\":{\"$gt\":1.5,\"$size\":2}}")?;
+    let coded = code_query(alloc, &query.wholes, &query.texts, &query.numbers, &table)?;
     let mut text = Vec::new(alloc);
-    write_doc(&coded, &mut text)?;
+    write_doc(&coded.expect(&rt, "a query"), &mut text)?;
     let wanted = b"{\"a\":{\"$gt\":{\"$numberLong\":\"2\"},\"$size\":{\"$numberInt\":\"2\"}}}";
     assert!(rt; text.as_slice() == wanted.as_slice());
     Ok(())

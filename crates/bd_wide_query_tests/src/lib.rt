@@ -5,3 +5,5 @@
 mod coded;
 #[cfg(test)]
 mod examples;
+#[cfg(test)]
+mod read;

@@ -251,10 +251,10 @@ keys_decide k l v w p q h =
 
 -- ---- NaN
 
-nan_key : IsKey 0
+pub nan_key : IsKey 0
 nan_key = record { least = λ some. absurd (omega arith); most = omega arith }
 
-nan_worth : key_worth 0 ≡ value_worth nan
+pub nan_worth : key_worth 0 ≡ value_worth nan
 unfolding key_worth
 nan_worth = ap value_worth (nan_is (2 ^ 63 - 1) (omega arith))
 

@@ -1,6 +1,7 @@
 pub mod CompareLemmas
 pub mod KeyLemmas
 pub mod LimbLemmas
+pub mod NanLemmas
 pub mod OrderLemmas
 pub mod RankLemmas
 pub mod RowLemmas

@@ -1,5 +1,5 @@
 -- Codes are in the order of the numbers.
-use Rattle.std.proofs.Common.{◌≡◌, ◌<◌, ◌≤◌, ◌⊎◌, ℕ, zero, suc, ◌+◌, List, [], ◌∷◌, refl, sym, ap, ◌∙◌, arith, Bool, true, false, ◌||◌, ◌&&◌, Ordering, Less, Equal, Greater, inl, inr, ⊎_elim}
+use Rattle.std.proofs.Common.{◌≡◌, ◌<◌, ◌≤◌, ◌⊎◌, ℕ, zero, suc, List, [], ◌∷◌, refl, sym, ap, ◌∙◌, arith, Bool, true, false, ◌||◌, ◌&&◌, Ordering, Less, Equal, Greater, inl, inr, ⊎_elim}
 use Rattle.std.specs.Prelude.{ℤ, pos, neg_ℤ, ◌<ℤ◌, ◌≤ℤ◌, ◌==◌, if◌then◌else◌}
 use Rattle.std.specs.Ordering.{int_cmp, is_eq}
 use Rattle.std.proofs.lemmas.{Int.ints, Int.by_lt_z}
@@ -9,7 +9,8 @@ use Rattle.bd_wide_rank.proofs.CompareLemmas.{alike, greater, less}
 
 -- ---- the weight of one member of the table
 
-same : (m n : ℤ) → is_eq (int_cmp m n) ≡ true → m ≡ n
+-- numbers that compare as equal are equal
+pub same : (m n : ℤ) → is_eq (int_cmp m n) ≡ true → m ≡ n
 same m n e = by_lt_z m n
     (λ (l : m <ℤ n). absurd (let no : false ≡ true = sym (ap is_eq (less m n l)) ∙ e in cc))
     (λ (h : n ≤ℤ m). by_lt_z n m
@@ -63,7 +64,8 @@ beneath (t ∷ ts) m n found l = ⊎_elim
     (λ (e : is_among ts m ≡ true). omega (arith, weight_rises t n m l, beneath ts m n e l))
     (or_split _ _ found)
 
-member_rank : (ts : List ℤ) (m : ℤ) → is_among ts m ≡ true → 0 < rank ts m
+-- a number that is among others has a rank above 0
+pub member_rank : (ts : List ℤ) (m : ℤ) → is_among ts m ≡ true → 0 < rank ts m
 member_rank [] m found = absurd cc
 member_rank (t ∷ ts) m found = ⊎_elim
     (λ (e : is_eq (int_cmp t m) ≡ true). omega (arith, at_itself t m (same t m e)))

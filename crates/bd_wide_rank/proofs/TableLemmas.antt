@@ -1,5 +1,5 @@
 -- Tables: how many numbers they have, and their codes.
-use Rattle.std.proofs.Common.{◌≡◌, ℕ, zero, suc, ◌+◌, ◌<◌, ◌^◌, Bool, true, false, ◌&&◌, ℤ, pos, neg_ℤ, List, ◌++◌, length, vec_len, arith}
+use Rattle.std.proofs.Common.{◌≡◌, ℕ, zero, suc, ◌+◌, ◌<◌, ◌^◌, Bool, true, false, ◌&&◌, ℤ, pos, neg_ℤ, List, [], ◌∷◌, ◌++◌, length, map, vec_len, refl, ap, arith}
 use Rattle.std.specs.Prelude.{FitsSigned, ◌==◌, if◌then◌else◌}
 use Rattle.std.specs.Int.{w32}
 use Rattle.std.specs.Ordering.{int_cmp, is_eq}
@@ -26,6 +26,16 @@ worths_length t =
 pub few_worths : (t : Table) → length (worths t) < 2 ^ 30
 unfolding worths
 few_worths t = rw (row_length t.doubles.keys.items t.others.numbers.items) t.fits
+
+-- what is made of each of two rows
+map_rows : (f : ℤ → ℤ) (keys : List ℕ) (bs : List Between) → map f (key_worths keys ++ between_worths bs) ≡ map (λ k. f (key_worth k)) keys ++ map (λ b. f (between_worth b)) bs
+map_rows f [] [] = refl
+map_rows f [] (b ∷ bs) = ap (λ xs. f (between_worth b) ∷ xs) (map_rows f [] bs)
+map_rows f (k ∷ ks) bs = ap (λ xs. f (key_worth k) ∷ xs) (map_rows f ks bs)
+
+pub map_worths : (f : ℤ → ℤ) (t : Table) → map f (worths t) ≡ map (λ k. f (key_worth k)) t.doubles.keys.items ++ map (λ b. f (between_worth b)) t.others.numbers.items
+unfolding worths
+map_worths f t = map_rows f t.doubles.keys.items t.others.numbers.items
 
 -- by its rank, and whether it is NaN
 abbrev by_rank : ℕ → Bool → ℤ

@@ -1,12 +1,13 @@
 //! The distinct numbers of a dump, and the code of any number among them.
 
-ghost use Rattle.std.specs.Prelude.{◌+◌, ◌<◌, ◌≡◌, ◌≤◌, ◌^◌, FitsSigned, length, ℤ};
+ghost use Rattle.std.specs.Prelude.{◌+◌, ◌<◌, ◌≡◌, ◌≤◌, ◌^◌, FitsSigned, IfOk, length, map, ℤ};
 ghost use Rattle.std.specs.Int.{w32};
 ghost use Rattle.std.specs.List.Sorted.{IsStrictlyIncreasing, IsStrictlySortedBy};
 ghost use Rattle.std.proofs.Props.{props};
 ghost use Rattle.bd_wide.specs.Rewritten.{least};
+ghost use Rattle.bd_wide_number.specs.Value.{nan};
 ghost use Rattle.bd_wide_rank.specs.Rank.{AreDistinct, code as code_of, rank};
-ghost use Rattle.bd_wide_rank.specs.Worth.{worth, worth_of};
+ghost use Rattle.bd_wide_rank.specs.Worth.{value_worth, worth, worth_of};
 ghost use Rattle.bd_wide_rank.specs.inside.Rows.{between_cmp};
 
 use crate::doubles::Doubles;
@@ -14,8 +15,10 @@ use crate::others::Others;
 use crate::position::{Position, is_nan};
 use crate::positioned::positioned;
 use bd_bson_view::ElementType;
+use bd_value::NoMemory;
 use bd_wide::number_in;
 use bd_wide_number::Number;
+use std::alloc::Global;
 
 /// The distinct numbers of a dump: fewer than 2 ^ 30.
 #[derive(Drop)]
@@ -36,7 +39,14 @@ impl Table {
     pub fn code(&self, number: Number) -> i32
         ensures { result ≡ code_of (worths self.now) (worth_of number) }
     {
-        let position = positioned(number);
+        self.code_at(positioned(number))
+    }
+
+    /// The code of a number, by its position.
+    fn code_at(&self, position: Position) -> i32
+        requires { IsPosition position }
+        ensures { result ≡ code_of (worths self.now) (position_worth position) }
+    {
         let rank = self.rank(position);
         if rank == 0 && is_nan(position) {
             -1
@@ -54,6 +64,24 @@ impl Table {
             Some(number) => self.code(number),
             None => self.code(Number::Whole(0)),
         }
+    }
+
+    /// The codes of the numbers of the table: first of those that are doubles.
+    ///
+    /// # Errors
+    /// `NoMemory` if memory runs out.
+    pub fn codes(&self, alloc: Global) -> Result<Vec<i32>, NoMemory>
+        ensures { IfOk result
+            (λ codes. codes.items ≡ map (code_of (worths self.now)) (worths self.now)) }
+    {
+        let mut codes = Vec::new(alloc);
+        for key in &self.doubles.keys {
+            codes.push(self.code_at(Position::Double(*key)))?;
+        }
+        for number in &self.others.numbers {
+            codes.push(self.code_at(Position::Between(*number)))?;
+        }
+        Ok(codes)
     }
 
     /// The rank of a number, by its position.
@@ -77,5 +105,11 @@ impl Table {
         ensures distinct { AreDistinct (worths self.now) }
         ensures fits_i32 { length (worths self.now) < 2 ^ 30 }
         ensures fit { (w : ℤ) → FitsSigned w32 (code_of (worths self.now) w) }
+    {}
+
+    /// A law: no other number has the code of NaN.
+    pub fn nan_has_its_code_alone(&self)
+        ensures { let table = worths self.now in (w : ℤ) →
+            code_of table w ≡ code_of table (value_worth nan) → w ≡ value_worth nan }
     {}
 }
