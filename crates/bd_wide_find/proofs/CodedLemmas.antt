@@ -1,0 +1,176 @@
+-- Tables, requests with codes, and copies.
+use Rattle.std.proofs.Common.{◌≡◌, ◌≤◌, ◌^◌, ℕ, List, length, Ok, Err, Result, refl, sym, ap, subst, inl, inr, ◌⊎◌, ◌∙◌, ◌++◌, [], codes, None, string_bytes}
+use Rattle.std.specs.Prelude.{ℤ, Option, true, false}
+use Rattle.bd_value.specs.Tree.{Doc, fields_of}
+use Rattle.bd_bson_check.specs.Dump.{IsDump}
+use Rattle.bd_bson_check.proofs.DumpLemmas.{scan_once}
+use Rattle.bd_bson_dump.specs.Collection.{bytes_of as bytes_of_dump, documents}
+use Rattle.bd_bson_dump.specs.declared.collection.Dump.{Dump}
+use Rattle.bd_bson_view.specs.Spelling.{valued}
+use Rattle.bd_cursor_request.specs.{Request.Request, Request.named_index, Request.request_of, Request.request_text, Refused.Reason, Refused.error_as, Refused.reason_of, Refused.then_part, declared.token.Token.Token}
+use Rattle.bd_cli_args.specs.FindOptions.{FindOptions}
+use Rattle.bd_cli_find.specs.Options.{after_part, batch_part, document_in, index_fault_text, refused_text, requested_with, search_of}
+use Rattle.bd_cli_find.specs.Options.{ReportsSearchFault}
+use Rattle.bd_cli_find.specs.declared.options.SearchFault.{SearchFault}
+use Rattle.bd_cli_find.specs.declared.options.SearchFault.TheVariants as faults
+use Rattle.bd_wide_number.specs.declared.number.Number.{Number}
+use Rattle.bd_wide_rank.specs.{Rank.AreDistinct, Rank.HaveSame, Rank.code, Worth.worth}
+use Rattle.bd_wide_copy.specs.{Copy.int32_of, Dump.AreDocuments, Dump.AreJoinedBy, Dump.AreNumbersOfAll, Dump.IsCopyOfDump, Dump.coded_documents}
+use Rattle.bd_wide_order.specs.{Query.renumber_request, Ranks.TypesAlike, Ranks.table_codes}
+use Rattle.bd_wide_query.specs.Coded.{coded_query, valued_query}
+use Rattle.bd_wide_find.specs.Types.{fields_are_alike}
+use Rattle.bd_wide_find.specs.Find.{IsNoRequest, IsRequest, request_by_value, types_message}
+use Rattle.bd_wide_find.specs.inside.Question.{CopiesDump, IsCrowded, ReportsAs}
+use Rattle.bd_wide_query.specs.Nan.{beside_nan}
+use Rattle.bd_wide_query.proofs.AlikeLemmas.{alike_back, alike_kept}
+use Rattle.bd_wide_find.proofs.TypesLemmas.{alike_renumbered}
+use Rattle.bd_wide_find.proofs.AnswerLemmas.{refusals_stay, requests_are_read}
+
+-- ---- tables
+
+pub crowded : (bytes message : List ℕ) (numbers : List ℤ) → AreDocuments bytes → AreNumbersOfAll bytes numbers
+    → (all : List ℤ) × AreDistinct all × HaveSame all numbers × (2 ^ 30 ≤ length all) → message ≡ codes "too many numbers" → IsCrowded bytes message
+crowded bytes message numbers documents are (all, distinct, same, many) is =
+    let ds = (documents worth).0 in
+    let joined = (documents worth).1 in
+    (ds, all, record { are = joined; distinct = distinct; same = λ w. same w ∙ are ds joined w }, many, is)
+
+-- ---- copies
+
+-- a dump that is the copy has the documents with codes
+pub copied_documents : (bytes new : List ℕ) (table : List ℤ) (es ds : List Doc) → IsDump es new → IsCopyOfDump worth (code table) bytes new
+    → AreJoinedBy (valued worth) ds bytes → es ≡ coded_documents (int32_of (code table)) ds
+copied_documents bytes new table es ds dump copied are = (scan_once es (coded_documents (int32_of (code table)) ds) None None new dump.0 (copied ds are).0.0).0
+
+-- the copy that was written and read
+pub copies_dump : (bytes : List ℕ) (table : List ℤ) (copy : Dump) (start new x : List ℕ) → IsCopyOfDump worth (code table) bytes x → new ≡ start ++ x
+    → start ≡ [] → IsDump (documents copy) new → bytes_of_dump copy ≡ new → CopiesDump bytes table copy
+copies_dump bytes table copy start new x copied added empty dump same =
+    let is : x ≡ new = ap (λ (s : List ℕ). s ++ x) (sym empty) ∙ sym added in
+    let written = subst (λ (y : List ℕ). IsCopyOfDump worth (code table) bytes y) is copied in
+    record {
+      copied = subst (λ (y : List ℕ). IsCopyOfDump worth (code table) bytes y) (sym same) written;
+      documents_are = λ ds are. copied_documents bytes new table (documents copy) ds dump written are;
+    }
+
+-- ---- requests
+
+module _ (options : FindOptions) (table : List ℤ) (numbers : List Number) (wholes texts : Doc) where
+  abbrev by_value : Doc
+  by_value = valued_query numbers wholes texts
+
+  abbrev with_codes : Doc
+  with_codes = coded_query table numbers wholes texts
+
+  -- what the options ask of values, and of codes
+  abbrev pub RequestsBoth : Type 0
+  RequestsBoth = ((r : Request) × (token : Option Token) × (text : List ℕ) × (requested_with options by_value ≡ Ok (r, token))
+      × (requested_with options with_codes ≡ Ok (renumber_request (table_codes table) text r, token)))
+      ⊎ ((message : List ℕ) × (requested_with options by_value ≡ Err message) × (requested_with options with_codes ≡ Err message))
+
+  -- what follows the request
+  abbrev after_request : Result Request Reason → Result (Request × Option Token) (List ℕ)
+  after_request x =
+      then_part (error_as refused_text x) (λ request.
+      then_part (error_as refused_text (batch_part options.batch)) (λ _.
+      then_part (error_as index_fault_text (named_index options.index)) (λ _.
+      then_part (error_as refused_text (after_part options.after)) (λ token. Ok (request, token)))))
+
+  both_after : (text : List ℕ) (r : Request) (batch : Result (Unit {0}) (List ℕ)) (index : Result (Unit {0}) (List ℕ)) (after : Result (Option Token) (List ℕ))
+      → (v c : Result (Request × Option Token) (List ℕ))
+      → v ≡ then_part batch (λ _. then_part index (λ _. then_part after (λ token. Ok (r, token))))
+      → c ≡ then_part batch (λ _. then_part index (λ _. then_part after (λ token. Ok (renumber_request (table_codes table) text r, token))))
+      → ((s : Request) × (token : Option Token) × (t : List ℕ) × (v ≡ Ok (s, token)) × (c ≡ Ok (renumber_request (table_codes table) t s, token)))
+      ⊎ ((message : List ℕ) × (v ≡ Err message) × (c ≡ Err message))
+  both_after text r (Ok _) (Ok _) (Ok token) v c e f = inl (r, token, text, e, f)
+  both_after text r (Ok _) (Ok _) (Err m) v c e f = inr (m, e, f)
+  both_after text r (Ok _) (Err m) after v c e f = inr (m, e, f)
+  both_after text r (Err m) index after v c e f = inr (m, e, f)
+
+  pub requests_both : RequestsBoth
+  requests_both = of_sort (document_in (codes "sort") options.sort) refl
+    where
+      of_sort : (sort : Result Doc (List ℕ)) → document_in (codes "sort") options.sort ≡ sort → RequestsBoth
+      of_sort (Err m) is = inr (
+        m,
+        ap (λ (x : Result Doc (List ℕ)). then_part x (search_of options by_value)) is,
+        ap (λ (x : Result Doc (List ℕ)). then_part x (search_of options with_codes)) is,
+      )
+      of_sort (Ok sort) is = of_request (request_of by_value sort options.skip options.limit) refl
+        where
+          v_is : requested_with options by_value ≡ after_request (request_of by_value sort options.skip options.limit)
+          v_is = ap (λ (x : Result Doc (List ℕ)). then_part x (search_of options by_value)) is
+
+          c_is : requested_with options with_codes ≡ after_request (request_of with_codes sort options.skip options.limit)
+          c_is = ap (λ (x : Result Doc (List ℕ)). then_part x (search_of options with_codes)) is
+
+          of_request : (x : Result Request Reason) → request_of by_value sort options.skip options.limit ≡ x → RequestsBoth
+          of_request (Err why) e = inr (
+            refused_text why,
+            v_is ∙ ap after_request e,
+            c_is ∙ ap after_request (refusals_stay table numbers wholes texts sort options.skip options.limit why e),
+          )
+          of_request (Ok r) e =
+              let text = request_text with_codes sort options.skip options.limit in
+              both_after text r (error_as refused_text (batch_part options.batch)) (error_as index_fault_text (named_index options.index))
+              (error_as refused_text (after_part options.after)) (requested_with options by_value) (requested_with options with_codes)
+              (v_is ∙ ap after_request e) (c_is ∙ ap after_request (requests_are_read table numbers wholes texts sort options.skip options.limit r e))
+
+  -- why the options ask nothing of codes is why they ask nothing by value
+  pub requests_nothing : (fault : SearchFault) → ReportsSearchFault (requested_with options with_codes) fault
+      → ReportsAs (IsNoRequest options numbers wholes texts table) fault
+  requests_nothing faults.NoMemory reported = tt
+  requests_nothing (faults.Refused refused) reported = of_message (refused_text (reason_of refused)) reported requests_both
+    where
+      of_message : (m : List ℕ) → requested_with options with_codes ≡ Err m → RequestsBoth → IsNoRequest options numbers wholes texts table m
+      of_message m is (inl (r, token, text, v, c)) = absurd (let no : ⊥ = cc in no)
+      of_message m is (inr (n, v, c)) = inr (inl (v ∙ sym c ∙ is))
+  requests_nothing (faults.Message message) reported = of_message (string_bytes message) reported requests_both
+    where
+      of_message : (m : List ℕ) → requested_with options with_codes ≡ Err m → RequestsBoth → IsNoRequest options numbers wholes texts table m
+      of_message m is (inl (r, token, text, v, c)) = absurd (let no : ⊥ = cc in no)
+      of_message m is (inr (n, v, c)) = inr (inl (v ∙ sym c ∙ is))
+
+  -- a request to codes is that by value with codes
+  pub requested_by_value : (coded : Request) (token : Option Token) → requested_with options with_codes ≡ Ok (coded, token)
+      → (r : Request) × (requested_with options by_value ≡ Ok (r, token)) × (coded ≡ renumber_request (table_codes table) coded.text r)
+  requested_by_value coded token is = go requests_both
+    where
+      go : RequestsBoth → (r : Request) × (requested_with options by_value ≡ Ok (r, token)) × (coded ≡ renumber_request (table_codes table) coded.text r)
+      go (inl (r, t, text, v, c)) =
+          let same : Ok (renumber_request (table_codes table) text r, t) ≡ Ok (coded, token) = sym c ∙ is in
+          let pair : (renumber_request (table_codes table) text r, t) ≡ (coded, token) = cc in
+          let request : renumber_request (table_codes table) text r ≡ coded = ap (λ (p : Request × Option Token). p.0) pair in
+          let tokens : t ≡ token = ap (λ (p : Request × Option Token). p.1) pair in
+          let texts_are : text ≡ coded.text = ap (λ (x : Request). x.text) request in
+          (r, v ∙ ap (λ (x : Option Token). Ok (r, x)) tokens, sym request ∙ ap (λ (x : List ℕ). renumber_request (table_codes table) x r) texts_are)
+      go (inr (m, v, c)) = absurd (let no : ⊥ = (let same : Err m ≡ Ok (coded, token) = sym c ∙ is in cc) in no)
+
+  module _ (coded : Request) (token : Option Token) (view : Request) (requested : requested_with options with_codes ≡ Ok (coded, token))
+      (beside : (r : Request) (text : List ℕ) → coded ≡ renumber_request (table_codes table) text r
+      → view ≡ renumber_request (table_codes table) text (record r { filter = beside_nan table r.filter })) where
+    -- the search with codes requests what the options ask by value
+    pub search_requests : fields_are_alike (fields_of texts) ≡ true → TypesAlike view.filter → (requests : IsRequest options numbers wholes texts table) × (token ≡ requests.token)
+        × (view ≡ renumber_request (table_codes table) requests.coded.text (request_by_value table requests.request requests.coded))
+    search_requests named alike =
+        let (r, by, is) = requested_by_value coded token requested in
+        let beside_is = beside r coded.text is in
+        let types = alike_back (table_codes table) table r.filter (subst TypesAlike (ap (λ (x : Request). x.filter) beside_is) alike) in
+        (record { request = r; token = token; requested = by; named_alike = named; alike = types; coded = coded; written = requested }, refl, beside_is)
+
+    -- some of the types of numbers are requested
+    pub requests_types : (message : List ℕ) → (fields_are_alike (fields_of texts) ≡ false) ⊎ (TypesAlike view.filter → ⊥) → message ≡ types_message → IsNoRequest options numbers wholes texts table message
+    requests_types message (inl named) is =
+        let (r, by, is_coded) = requested_by_value coded token requested in
+        inr (inr (r, token, by, inl named, is))
+    requests_types message (inr unlike) is =
+        let (r, by, is_coded) = requested_by_value coded token requested in
+        let beside_is = beside r coded.text is_coded in
+        inr (inr (
+          r,
+          token,
+          by,
+          inr (λ alike. unlike (subst TypesAlike (sym (ap (λ (x : Request). x.filter) beside_is))
+              (alike_renumbered (table_codes table) (beside_nan table r.filter) (alike_kept table r.filter alike)))),
+          is,
+        ))

@@ -1,0 +1,8 @@
+pub mod AnswerLemmas
+pub mod SearchLemmas
+pub mod CodedLemmas
+pub mod FindLemmas
+pub mod NumberLemmas
+pub mod QuestionLemmas
+pub mod TypesLemmas
+pub mod WidthLemmas

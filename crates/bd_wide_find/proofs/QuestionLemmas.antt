@@ -1,0 +1,48 @@
+-- What the options ask, or why they are refused.
+use Rattle.std.proofs.Common.{◌≡◌, ◌∙◌, List, ℕ, inr, string_bytes}
+use Rattle.std.specs.Prelude.{ℤ}
+use Rattle.bd_value.specs.Tree.{AreParts, Doc, doc, fields_of, pairs_of-fields_of}
+use Rattle.bd_cursor_request.specs.Refused.{reason_of}
+use Rattle.bd_cli_args.specs.FindOptions.{FindOptions}
+use Rattle.bd_cli_find.specs.Options.{ReportsSearchFault, refused_text, requested_with}
+use Rattle.bd_cli_find.specs.declared.options.{SearchFault.SearchFault}
+use Rattle.bd_cli_find.specs.declared.options.SearchFault.TheVariants as faults
+use Rattle.bd_wide_number.specs.declared.number.Number.{Number}
+use Rattle.bd_wide_rank.specs.Worth.{worth}
+use Rattle.bd_wide_copy.specs.Dump.{AreDocuments}
+use Rattle.bd_wide_substitute.specs.Both.{IsRead}
+use Rattle.bd_wide_find.specs.Find.{IsNoRequest, IsRefused, IsRefusedOver, query_text}
+use Rattle.bd_wide_find.specs.declared.coded.Coded.{Coded}
+use Rattle.bd_wide_find.specs.inside.Question.{CopiesDump, IsTableOf, ReportsAs, SearchesBy, SearchesCopy}
+
+-- the parts of a document are its pairs
+pub parts_are : (d ps : Doc) → AreParts (doc (fields_of d)) ps → ps ≡ d
+parts_are d ps are = are ∙ pairs_of-fields_of d
+
+-- what the options ask is refused
+pub refused_options : (options : FindOptions) (wholes texts : Doc) (numbers : List Number) → IsRead (query_text options) wholes texts numbers
+    → (fault : SearchFault) → ReportsSearchFault (requested_with options texts) fault → ReportsAs (IsRefused options) fault
+refused_options options wholes texts numbers read faults.NoMemory reported = tt
+refused_options options wholes texts numbers read (faults.Refused refused) reported = inr (wholes, texts, numbers, read, reported)
+refused_options options wholes texts numbers read (faults.Message message) reported = inr (wholes, texts, numbers, read, reported)
+
+-- a message of one property is one of a weaker
+pub reports_more : (Is More : List ℕ → Type 0) → ((message : List ℕ) → Is message → More message) → (fault : SearchFault) → ReportsAs Is fault
+    → ReportsAs More fault
+reports_more Is More more faults.NoMemory reported = tt
+reports_more Is More more (faults.Refused refused) reported = more (refused_text (reason_of refused)) reported
+reports_more Is More more (faults.Message message) reported = more (string_bytes message) reported
+
+module _ (options : FindOptions) (numbers : List Number) (wholes texts : Doc) (bytes : List ℕ) (documents : AreDocuments bytes) where
+  -- the options are refused over a dump
+  pub refused_over : (table : List ℤ) → IsTableOf bytes table → (fault : SearchFault) → ReportsAs (IsNoRequest options numbers wholes texts table) fault
+      → ReportsAs (IsRefusedOver options numbers wholes texts bytes) fault
+  refused_over table of fault =
+      reports_more (IsNoRequest options numbers wholes texts table) (IsRefusedOver options numbers wholes texts bytes)
+      (λ message is. ((documents worth).0, table, of (documents worth).0 (documents worth).1, inr is)) fault
+
+  -- a search with codes, and the copy
+  pub searches_copy : (table : List ℤ) → IsTableOf bytes table → (c : Coded) → SearchesBy options numbers wholes texts table c.search
+      → CopiesDump bytes table c.copy → SearchesCopy options numbers wholes texts bytes c
+  searches_copy table of c searches copies =
+      record { ds = (documents worth).0; table = table; has = of (documents worth).0 (documents worth).1; searches = searches; copies = copies }

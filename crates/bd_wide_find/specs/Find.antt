@@ -1,0 +1,143 @@
+-- What `bsonwide find` prints for its options and an input: numbers of all types match, and are sorted, by their values.
+use Rattle.std.specs.Prelude.{◌≡◌, ◌⊎◌, ◌≤◌, ◌^◌, ℕ, ℤ, true, false, List, [], length, codes, Option, unwrap_or, Ok, Err}
+use Rattle.bd_value.specs.{Tree.Doc, Tree.doc, Tree.fields_of, Fits.Fits}
+use Rattle.bd_io_device.specs.Devices.{Over, Reader, read_words}
+use Rattle.bd_io_device.specs.declared.reading.ReadFault.{ReadFault}
+use Rattle.bd_bson_view.specs.Spelling.{valued}
+use Rattle.bd_bson_check.specs.{Dump.IsDump, Fault.fault_view}
+use Rattle.bd_bson_check.specs.declared.fault.Fault.{Fault}
+use Rattle.bd_extjson_fault.specs.declared.json_fault.JsonFault.{JsonFault}
+use Rattle.bd_extjson_fault.specs.declared.json_fault.JsonFaultKind.TheVariants.{NotADocument}
+use Rattle.bd_cursor_request.specs.{Request.Request, declared.token.Token.Token}
+use Rattle.bd_cli_args.specs.FindOptions.{FindOptions}
+use Rattle.bd_cli_print.specs.Printer.{IsNamedText}
+use Rattle.bd_cli_scan.specs.{Input.ReadsInput, Run.Run, Run.partial_run, Output.fault_text, Output.refusal_output}
+use Rattle.bd_cli_find.specs.{Find.found_run, Options.json_fault_text, Options.requested_with}
+use Rattle.bd_wide_number.specs.declared.number.Number.{Number}
+use Rattle.bd_wide_rank.specs.{Rank.AreDistinct, Rank.HaveSame, Rank.code, Worth.worth}
+use Rattle.bd_wide_copy.specs.{Dump.AreJoinedBy, Dump.IsCopyOfDump, Dump.IsFirstFault, Numbers.document_numbers}
+use Rattle.bd_wide_order.specs.Ranks.{TypesAlike}
+use Rattle.bd_wide_substitute.specs.Both.{IsRead, IsUnread}
+use Rattle.bd_wide_query.specs.{Coded.coded_query, Coded.valued_query, Nan.beside_nan}
+use Rattle.bd_wide_find.specs.{Printer.IsWideText, Types.fields_are_alike}
+
+-- ---- what is requested
+
+-- the text of the query; without one it is `{}`
+abbrev pub query_text : FindOptions → List ℕ
+query_text options = unwrap_or options.query (codes "{}")
+
+-- The text of a query is refused with this message.
+abbrev pub IsRefusedText : List ℕ → List ℕ → Type 0
+IsRefusedText text message = (fault : JsonFault) × IsUnread text fault × (message ≡ json_fault_text (codes "query") fault)
+
+-- The options are refused with this message, whatever the file contains: by the text of the query, or by what it or another of
+-- them requests.
+abbrev pub IsRefused : FindOptions → List ℕ → Type 0
+IsRefused options message = IsRefusedText (query_text options) message
+    ⊎ ((wholes : Doc) × (texts : Doc) × (numbers : List Number) × IsRead (query_text options) wholes texts numbers
+    × (requested_with options texts ≡ Err message))
+
+-- What the options ask: a query, as two documents and the numbers where they differ.
+pub record IsAccepted (options : FindOptions) : Type 0 where
+  pub wholes : Doc
+  pub texts : Doc
+  pub numbers : List Number
+  pub read : IsRead (query_text options) wholes texts numbers
+  pub request : Request
+  pub token : Option Token
+  pub requested : requested_with options texts ≡ Ok (request, token)
+
+-- ---- the answer by value
+
+-- The bytes are these documents by value, and the table has the worth of each number in them once.
+pub record HasTable (bytes : List ℕ) (ds : List Doc) (table : List ℤ) : Type 0 where
+  pub are : AreJoinedBy (valued worth) ds bytes
+  pub distinct : AreDistinct table
+  pub same : HaveSame table (document_numbers ds)
+
+-- The request of a query by value. The text is that of the request with ranks among the numbers of a table.
+pub record IsRequest (options : FindOptions) (numbers : List Number) (wholes texts : Doc) (table : List ℤ) : Type 0 where
+  pub request : Request
+  pub token : Option Token
+  pub requested : requested_with options (valued_query numbers wholes texts) ≡ Ok (request, token)
+  pub named_alike : fields_are_alike (fields_of texts) ≡ true
+  pub alike : TypesAlike request.filter
+  pub coded : Request
+  pub written : requested_with options (coded_query table numbers wholes texts) ≡ Ok (coded, token)
+
+-- the message for `$type` of some of the types of numbers
+abbrev pub types_message : List ℕ
+types_message = codes "query: the types of numbers are not told apart here"
+
+-- The options are refused with this message: the query with ranks is no document, it or another option requests what it may not, or
+-- some types of numbers are requested for.
+abbrev pub IsNoRequest : FindOptions → List Number → Doc → Doc → List ℤ → List ℕ → Type 0
+IsNoRequest options numbers wholes texts table message =
+    ((Fits (doc (fields_of (coded_query table numbers wholes texts))) → ⊥)
+    × (message ≡ json_fault_text (codes "query") (record { kind = NotADocument; at = 0 })))
+    ⊎ ((requested_with options (valued_query numbers wholes texts) ≡ Err message)
+    ⊎ ((request : Request) × (token : Option Token)
+    × (requested_with options (valued_query numbers wholes texts) ≡ Ok (request, token))
+    × ((fields_are_alike (fields_of texts) ≡ false) ⊎ (TypesAlike request.filter → ⊥)) × (message ≡ types_message)))
+
+-- A request by value to documents by value. Its tokens have the digest of a copy of the dump, in which each number is its rank
+-- among those of the dump, and of the text of the request with such ranks.
+pub record IsRequestOver (options : FindOptions) (numbers : List Number) (wholes texts : Doc) (bytes : List ℕ) : Type 0 where
+  pub ds : List Doc
+  pub table : List ℤ
+  pub has : HasTable bytes ds table
+  pub requests : IsRequest options numbers wholes texts table
+  pub copy : List ℕ
+  pub copied : IsCopyOfDump worth (code table) bytes copy
+
+-- the request, with NaN as in MongoDB
+abbrev pub request_by_value : List ℤ → Request → Request → Request
+request_by_value table request coded = record request { filter = beside_nan table request.filter; text = coded.text }
+
+-- The options are refused with this message over a dump of all types.
+abbrev pub IsRefusedOver : FindOptions → List Number → Doc → Doc → List ℕ → List ℕ → Type 0
+IsRefusedOver options numbers wholes texts bytes message = (ds : List Doc) × (table : List ℤ) × HasTable bytes ds table
+    × (((2 ^ 30 ≤ length table) × (message ≡ codes "too many numbers"))
+    ⊎ IsNoRequest options numbers wholes texts table message)
+
+-- ---- a run
+
+-- what a run of `find` comes to, by its options and its file
+pub data FindCase (options : FindOptions) (file : Over Reader) : Type 0 where
+  -- the options are refused, and the file is not read
+  refused : (message : List ℕ) → IsRefused options message → file.after ≡ file.before → FindCase options file
+  -- the file was not read to its end
+  unread : (fault : ReadFault) → IsAccepted options → ReadsInput file (Err fault) → FindCase options file
+  -- a document has a fault
+  faulty : (bytes : List ℕ) (fault : Fault) → IsAccepted options → ReadsInput file (Ok bytes) → IsFirstFault bytes fault
+      → FindCase options file
+  -- neither the query nor the dump has a double or a decimal128
+  plain : (a : IsAccepted options) (bytes : List ℕ) (ds : List Doc) → ReadsInput file (Ok bytes) → a.numbers ≡ [] → IsDump ds bytes
+      → FindCase options file
+  -- the dump is searched by value
+  by_value : (a : IsAccepted options) (bytes : List ℕ) → ReadsInput file (Ok bytes)
+      → IsRequestOver options a.numbers a.wholes a.texts bytes → FindCase options file
+  -- the options are refused over this dump
+  refused_over : (a : IsAccepted options) (bytes message : List ℕ) → ReadsInput file (Ok bytes)
+      → IsRefusedOver options a.numbers a.wholes a.texts bytes message → FindCase options file
+
+-- the run of a case: its message alone, or the first batch of the documents that are found, as they are in the dump
+abbrev pub case_run : {options : FindOptions} {file : Over Reader} → FindCase options file → Run
+case_run (refused message _ _) = partial_run (refusal_output message)
+case_run (unread fault _ _) = partial_run (refusal_output (read_words fault))
+case_run (faulty bytes fault _ _ _) = partial_run (refusal_output (fault_text fault.document (fault_view fault)))
+case_run {options} (plain a bytes ds _ _ _) = found_run (IsNamedText ds) options.batch (a.request, a.token) bytes ds
+case_run {options} (by_value a bytes _ over) =
+    found_run (IsWideText bytes) options.batch (request_by_value over.table over.requests.request over.requests.coded, over.requests.token)
+    over.copy over.ds
+case_run (refused_over a bytes message _ _) = partial_run (refusal_output message)
+
+-- A run of `find` is that of its case; or memory ran out before anything was printed, and the file was read to its end or not at all.
+abbrev pub wide_find_run : FindOptions → Over Reader → Run
+wide_find_run options file = record {
+  IsOutput = λ output. (c : FindCase options file) × (case_run c).IsOutput output;
+  IsNext = λ text piece. (c : FindCase options file) × (case_run c).IsNext text piece;
+  IsBegun = λ text. ((c : FindCase options file) × (case_run c).IsBegun text)
+      ⊎ ((text ≡ []) × ((file.after ≡ file.before) ⊎ ((bytes : List ℕ) × ReadsInput file (Ok bytes))));
+}

@@ -1,0 +1,4 @@
+pub mod Find
+pub mod Printer
+pub mod Types
+pub mod inside

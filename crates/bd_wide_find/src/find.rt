@@ -1,0 +1,131 @@
+//! `find` over documents of all types: numbers match, and are sorted, by their values.
+
+ghost use Rattle.std.specs.Prelude.{◌≡◌, List, Ok, true};
+ghost use Rattle.bd_value.specs.Tree.{Doc};
+ghost use Rattle.bd_bson_check.specs.Dump.{IsDump};
+ghost use Rattle.bd_io_device.specs.Devices.{Over, Reader, over};
+ghost use Rattle.bd_cursor_request.specs.Request.{request_view};
+ghost use Rattle.bd_cli_scan.specs.{Input.ReadsInput, Input.ReadsNoFurther, Run.Prints};
+ghost use Rattle.bd_cli_print.specs.Printer.{IsNamedText};
+ghost use Rattle.bd_cli_find.specs.{Find.found_run, Options.fits_batch};
+ghost use Rattle.bd_wide_copy.specs.Dump.{AreDocuments, bytes_of};
+ghost use Rattle.bd_wide_find.specs.Find.{wide_find_run};
+ghost use Rattle.bd_wide_find.specs.inside.Question.{ReadsOptions, IsReported};
+
+use crate::coded::{Coded, code};
+use crate::load::load_wide;
+use crate::printer::WidePrinter;
+use crate::question::{Question, read_question};
+use bd_bson_dump::read_dump;
+use bd_cli_args::FindOptions;
+use bd_cli_files::load::report_load_fault;
+use bd_cli_find::{Search, SearchFault, print_found, report_refused};
+use bd_cli_print::NamedPrinter;
+use bd_cli_scan::Status;
+use bd_cli_scan::output::{report_error, report_no_memory};
+use bd_io_device::{Input, Output};
+use bd_wide_copy::WideDump;
+use std::alloc::Global;
+
+/// Reads the whole input unless an option is refused, and prints the first batch of the requested documents;
+/// without a size, all of them. Nothing is written to standard output if the input is not a dump.
+pub fn find<R: Input, O: Output, E: Output>(
+    alloc: Global,
+    program: &str,
+    options: &FindOptions,
+    input: &mut R,
+    out: &mut O,
+    err: &mut E,
+) -> Status
+    ensures found { Prints program.now
+        (wide_find_run options.now (over R.state input.old input.new))
+        (over O.state out.old out.new) (over E.state err.old err.new) result }
+    ensures stops_reading { ReadsNoFurther R.read_gives input.old input.new }
+{
+    let question = match read_question(alloc, options) {
+        Ok(question) => question,
+        Err(fault) => return report_fault(alloc, program, &fault, err),
+    };
+    match load_wide(alloc, input) {
+        Ok(dump) => answer(alloc, program, options, question, dump, out, err),
+        Err(fault) => report_load_fault(alloc, program, &fault, err),
+    }
+}
+
+/// Prints the answer of a dump: by the dump itself if neither it nor the query has a double or a decimal128.
+fn answer<O: Output, E: Output>(
+    alloc: Global,
+    program: &str,
+    options: &FindOptions,
+    question: Question,
+    dump: WideDump,
+    out: &mut O,
+    err: &mut E,
+) -> Status
+    requires requests { ReadsOptions options.now question }
+    requires documents { AreDocuments (bytes_of dump) }
+    ensures { (file : Over Reader) → ReadsInput file (Ok (bytes_of dump)) →
+        Prints program.now (wide_find_run options.now file)
+        (over O.state out.old out.new) (over E.state err.old err.new) result }
+{
+    let Question { query, search } = question;
+    if query.numbers.is_empty() && dump.is_plain() {
+        return answer_plain(alloc, program, options, search, dump, out, err);
+    }
+    match code(alloc, options, &query, &dump) {
+        Ok(Coded { search, copy }) => print_found(
+            alloc,
+            program,
+            copy,
+            search,
+            options.batch,
+            &WidePrinter { dump: &dump },
+            out,
+            err,
+        ),
+        Err(fault) => report_fault(alloc, program, &fault, err),
+    }
+}
+
+/// The same by the dump itself.
+fn answer_plain<O: Output, E: Output>(
+    alloc: Global,
+    program: &str,
+    options: &FindOptions,
+    search: Search,
+    dump: WideDump,
+    out: &mut O,
+    err: &mut E,
+) -> Status
+    requires plain { (ds : List Doc) × IsDump ds (bytes_of dump) }
+    requires fits { fits_batch options.now.batch ≡ true }
+    ensures { (ds : List Doc) → IsDump ds (bytes_of dump) →
+        Prints program.now (found_run (IsNamedText ds) options.now.batch
+        (request_view search.request, search.token) (bytes_of dump) ds)
+        (over O.state out.old out.new) (over E.state err.old err.new) result }
+{
+    match read_dump(alloc, dump.into_bytes()) {
+        Ok(dump) => print_found(
+            alloc,
+            program,
+            dump,
+            search,
+            options.batch,
+            &NamedPrinter,
+            out,
+            err,
+        ),
+        Err(_) => report_no_memory(program, err),
+    }
+}
+
+/// Reports why there is no search.
+fn report_fault<E: Output>(alloc: Global, program: &str, fault: &SearchFault, err: &mut E) -> Status
+    ensures { IsReported program.now (over E.state err.old err.new) result fault.now }
+{
+    match fault {
+        SearchFault::NoMemory => report_no_memory(program, err),
+        SearchFault::Refused(refused) => report_refused(alloc, program, refused, err),
+        SearchFault::Message(message) => report_error(program, message, err),
+    }
+}

@@ -1,0 +1,48 @@
+//! A search over a dump of all 21 types of BSON 1.1.
+//!
+//! What is searched is a copy of the dump, with a code in place of each number. What is printed are the documents of the dump
+//! itself: document n of the copy is document n of the dump.
+//!
+//! An example, which `bd_wide_find_tests` proves and runs as `examples::find_by_value`:
+//!
+//! ```
+//! // {"a":1.5}, {"a":2}
+//! let bytes = b"\x10\0\0\0\x01a\0\0\0\0\0\0\0\xf8\x3f\0\x0c\0\0\0\x10a\0\x02\0\0\0\0";
+//! let options = FindOptions {
+//!     query: Some(String::from_str(alloc, "{\"a\":{\"$lt\":1.75}}")?),
+//!     sort: None,
+//!     skip: 0,
+//!     limit: 0,
+//!     batch: None,
+//!     index: None,
+//!     after: None,
+//! };
+//! let mut file = MemoryInput::new(bytes, 28, None);
+//! let mut buffer = [0; 100];
+//! let mut out = MemoryOutput::new(&mut buffer, 100, None);
+//! let mut reported = [0; 200];
+//! let mut err = MemoryOutput::new(&mut reported, 200, None);
+//! let status = find(alloc, "bsonwide", &options, &mut file, &mut out, &mut err);
+//! assert!(rt; status == Status::Done);
+//! assert!(rt; out.bytes() == b"{\"a\":{\"$numberDouble\":\"1.5\"}}\n".as_slice());
+//! ```
+//!
+//! - `find`: the command, over any devices: `specs/Find.antt`.
+//! - `question`: what its options ask.
+//! - `load`: a dump of all types in memory.
+//! - `coded`: the search with codes, and the copy that is searched.
+//! - `types`: whether a query distinguishes the types of numbers: `specs/Types.antt`.
+//! - `printer`: `WidePrinter`, which prints the documents of the dump: `specs/Printer.antt`.
+//! - `laws`: a request with codes selects of the copy what the request by value selects of the documents.
+#![tactic(auto)]
+
+mod coded;
+pub mod find;
+mod laws;
+mod load;
+mod printer;
+mod question;
+mod types;
+
+pub use laws::coded_copies_answer_by_value;
+pub use printer::WidePrinter;
