@@ -4,6 +4,7 @@ use Rattle.std.specs.{Map.lookup, Str.bytes_eq}
 use Rattle.clap.specs.declared.error.kind.ErrorKind.TheVariants.{MissingSubcommand}
 use Rattle.clap.specs.Walk.{Row, Text, first_of}
 use Rattle.clap.proofs.{WalkLemmas.first_value-rows, WalkLemmas.one_text-rows, WalkLemmas.raw_values-rows}
+use Rattle.bd_cli_args.specs.CommandLine.{find_app, find_options_in}
 use Rattle.bd_cli_args.specs.FileCommands.{file_app}
 use Rattle.bd_cli_args.specs.WideLine.{OrderView, wide_commands, check, dump, pack, order, line_app, order_app, ordered_by, texts_in}
 use Rattle.bd_cli_args.proofs.ProgramLemmas.{EachShape, HasOrders, IsProgram, file_given, file_orders, refused, shape_in}
@@ -15,11 +16,17 @@ is_program = record {
   free = refl;
   plain = refl;
   requires_one = λ rows c. refused MissingSubcommand c;
-  each = (of_file (codes "dump") dump (λ rows. refl), (of_file (codes "check") check (λ rows. refl), (of_file (codes "pack") pack (λ rows. refl), (orders, tt))));
+  each = (
+    of_file (codes "dump") dump (λ rows. refl),
+    (of_file (codes "check") check (λ rows. refl), (of_file (codes "pack") pack (λ rows. refl), (finds, (orders, tt)))),
+  );
 }
   where
     of_file : (name : Text) (says : Text → OrderView) → ((rows : List Row) → ordered_by name rows ≡ option_map says (first_of (codes "file") rows)) → HasOrders line_app ordered_by (shape_in line_app (file_app name))
     of_file name says is = file_orders line_app ordered_by (shape_in line_app (file_app name)) (λ rows. says) refl (λ rows c. file_given _ _ c) is
+
+    finds : HasOrders line_app ordered_by (shape_in line_app find_app)
+    finds = file_orders line_app ordered_by (shape_in line_app find_app) (λ rows file. OrderView.find file (find_options_in rows)) refl (λ rows c. file_given _ _ c) (λ rows. refl)
 
     orders : HasOrders line_app ordered_by (shape_in line_app order_app)
     orders = file_orders line_app ordered_by (shape_in line_app order_app) (λ rows file. order file (texts_in (codes "path") rows)) refl (λ rows c. file_given _ _ c) (λ rows. refl)

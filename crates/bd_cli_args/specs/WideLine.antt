@@ -4,10 +4,12 @@ use Rattle.std.specs.Prelude.{List, [], ◌∷◌, map, codes, string_bytes, unw
 use Rattle.std.specs.Map.{lookup}
 use Rattle.std.specs.Str.{bytes_eq}
 use Rattle.clap.specs.Lexer.{usize_max}
-use Rattle.clap.specs.Simple.{App, new_rule, with_rule}
+use Rattle.clap.specs.Simple.{App, new_rule, with_rule, with_subcommand}
 use Rattle.clap.specs.Walk.{Row, Rule, Text, all_of, first_of}
 use Rattle.clap.specs.declared.builder.action.ArgAction.{ArgAction}
+use Rattle.bd_cli_args.specs.CommandLine.{find_app, find_options_in}
 use Rattle.bd_cli_args.specs.FileCommands.{file_app, order_by, program_app, refusal_by}
+use Rattle.bd_cli_args.specs.FindOptions.{FindOptions}
 use Rattle.bd_cli_args.specs.declared.order.WordsFault.{WordsFault}
 use Rattle.bd_cli_args.specs.declared.wide_line.WideOrder.{WideOrder}
 
@@ -23,15 +25,17 @@ abbrev pub order_app : App
 order_app = with_rule (file_app (codes "order")) paths_rule
 
 -- the command lines that `bsonwide` accepts: `dump`, `check` or `pack` with one file,
--- and `order` with one file and any paths
+-- `find` with one file and its options, and `order` with one file and any paths
 abbrev pub line_app : App
-line_app = program_app (codes "bsonwide") (codes "dump" ∷ codes "check" ∷ codes "pack" ∷ []) order_app
+line_app =
+    with_subcommand (program_app (codes "bsonwide") (codes "dump" ∷ codes "check" ∷ codes "pack" ∷ []) find_app) order_app.top
 
 -- a command: the meaning of the arguments, with texts as their bytes
 pub data OrderView : Type 0 where
   dump : Text → OrderView
   check : Text → OrderView
   pack : Text → OrderView
+  find : Text → FindOptions → OrderView
   order : Text → List Text → OrderView
 
 -- the command that a `WideOrder` in memory represents
@@ -39,6 +43,7 @@ abbrev pub meant : WideOrder → OrderView
 meant (WideOrder.Dump file) = dump (string_bytes file)
 meant (WideOrder.Check file) = check (string_bytes file)
 meant (WideOrder.Pack file) = pack (string_bytes file)
+meant (WideOrder.Find file options) = find (string_bytes file) options
 meant (WideOrder.Order file paths) = order (string_bytes file) (map string_bytes paths.items)
 
 -- the texts of an argument; empty if it is not given
@@ -48,6 +53,7 @@ texts_in name rows = unwrap_or (all_of name rows) []
 -- what each command does with its FILE, by its name
 abbrev pub wide_commands : List Row → List (Text × (Text → OrderView))
 wide_commands rows = (codes "dump", dump) ∷ (codes "check", check) ∷ (codes "pack", pack)
+    ∷ (codes "find", λ file. find file (find_options_in rows))
     ∷ (codes "order", λ file. order file (texts_in (codes "path") rows)) ∷ []
 
 -- the command that a name and its parsed arguments mean

@@ -151,7 +151,7 @@ fn order_named(alloc: Global, name: &str, matches: &ArgMatches<'_>) -> Result<Or
 }
 
 /// The options in these matches.
-fn options_of(alloc: Global, matches: &ArgMatches<'_>) -> Result<FindOptions, WordsFault>
+pub(crate) fn options_of(alloc: Global, matches: &ArgMatches<'_>) -> Result<FindOptions, WordsFault>
     ensures options { IfOk result (λ o. o ≡ find_options_in (rows_of (found_of matches.now))) }
     ensures fault { IfErr result (λ f. f ≡ NoMemory) }
 {
@@ -212,7 +212,7 @@ const OPTIONS: [(&str, bool); 7] = [
 ];
 
 /// The command `find` with all its options.
-fn find_command<'a>(alloc: Global) -> Made<'a>
+pub(crate) fn find_command<'a>(alloc: Global) -> Made<'a>
     ensures { IfOk result (IsBuiltAs find_app) }
 {
     with_options(alloc, of_file(alloc, "find")?, &OPTIONS)

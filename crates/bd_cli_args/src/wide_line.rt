@@ -7,8 +7,9 @@ ghost use Rattle.bd_cli_args.specs.inside.FileCommands.{IsBuiltAs};
 ghost use Rattle.bd_cli_args.specs.declared.order.WordsFault.TheVariants.{NoMemory};
 ghost use Rattle.bd_cli_args.specs.WideLine.{fault_for, line_app, meant, order_app, order_of, ordered_by, paths_rule, texts_in};
 
+use crate::command_line::{find_command, options_of};
 use crate::file_commands::{Made, explain_error, of_file, program_command};
-use crate::order::WordsFault;
+use crate::order::{FindOptions, WordsFault};
 use clap::{Arg, ArgAction, ArgMatches};
 use std::alloc::Global;
 
@@ -21,11 +22,18 @@ pub enum WideOrder {
     Check { file: String },
     /// Each line of text as a document.
     Pack { file: String },
+    /// The documents that the options select.
+    Find { file: String, options: FindOptions },
     /// Numbers as whole numbers in the same order; at these paths by their codes.
     Order { file: String, paths: Vec<String> },
 }
 
-/// The command that the arguments mean, without the program's name. `dump FILE`, `check FILE`, `pack FILE` and `order FILE [PATH..]` are accepted. A file or a path whose name looks like a flag comes after `--`.
+/// The command that the arguments mean, without the program's name.
+///
+/// `dump FILE`, `check FILE`, `pack FILE` and `order FILE [PATH..]` are accepted, and
+/// `find FILE [--query Q] [--sort S] [--skip N] [--limit N] [--batch N] [--index PATH] [--after TOKEN]`, N from 0 to
+/// 2,147,483,647, with the options in any order, each at most once, and FILE before or after them. `--skip` and `--limit` are 0
+/// by default. A file or a path whose name looks like a flag comes after `--`.
 ///
 /// # Errors
 ///
@@ -65,6 +73,10 @@ fn order_named(alloc: Global, name: &str, matches: &ArgMatches<'_>) -> Result<Wi
         "dump" => Ok(WideOrder::Dump { file }),
         "check" => Ok(WideOrder::Check { file }),
         "pack" => Ok(WideOrder::Pack { file }),
+        "find" => {
+            let options = options_of(alloc, matches)?;
+            Ok(WideOrder::Find { file, options })
+        }
         "order" => {
             let paths = texts_of(alloc, matches, "path")?;
             Ok(WideOrder::Order { file, paths })
@@ -105,7 +117,8 @@ fn copied(alloc: Global, texts: &[&str]) -> Result<Vec<String>, WordsFault>
 fn line_command<'a>(alloc: Global) -> Made<'a>
     ensures { IfOk result (IsBuiltAs line_app) }
 {
-    program_command(alloc, "bsonwide", &FILE_COMMANDS, order_command(alloc)?)
+    let line = program_command(alloc, "bsonwide", &FILE_COMMANDS, find_command(alloc)?)?;
+    line.subcommand(order_command(alloc)?)
 }
 
 /// The command that takes paths after its file.

@@ -8,6 +8,7 @@ use crate::dump::WideLines;
 use crate::output::PROGRAM;
 use crate::pack::WideLinePacker;
 use crate::running::filter_file;
+use bd_cli_args::FindOptions;
 use bd_cli_files::pack::pack_by;
 use bd_cli_scan::Status;
 use bd_cli_scan::check::check_all_types;
@@ -15,6 +16,7 @@ use bd_cli_scan::dump::dump_by;
 use bd_io_device::{Input, Output};
 use bd_wide::Order;
 use bd_wide_dump::WideTextBuffer;
+use bd_wide_find::find::find;
 use bd_wide_pack::WidePacker;
 use std::alloc::Global;
 
@@ -27,12 +29,15 @@ pub enum Command {
     Dump,
     /// Each line of canonical Extended JSON as a document.
     Pack,
+    /// The documents that these options request, one a line.
+    Find(FindOptions),
     /// Each document with its number, and with whole numbers in the same order.
     Order(Order),
 }
 
 /// Runs a command over a file, and returns the exit status: 0 if all was done, 1 after a fault of the input or of a device, or
-/// if memory runs out. It takes the memory of one document, and of what is written for it; for `Pack` that of all documents.
+/// if memory runs out. It takes the memory of one document, and of what is written for it; for `Pack` that of all documents, and for
+/// `Find` that of the dump, and of a copy if it has a double or a decimal128.
 pub fn run<R: Input, O: Output, E: Output>(
     alloc: Global,
     command: &Command,
@@ -53,6 +58,7 @@ pub fn run<R: Input, O: Output, E: Output>(
             let packer = WidePacker::new(alloc);
             pack_by(alloc, PROGRAM, WideLinePacker { packer }, file, out, err)
         }
+        Command::Find(options) => find(alloc, PROGRAM, options, file, out, err),
         Command::Order(order) => filter_file(alloc, order, file, out, err),
     }
 }
@@ -63,7 +69,7 @@ pub fn block_size(command: &Command) -> usize
     ensures { result ≡ block_size command.now }
 {
     match command {
-        Command::Check | Command::Dump | Command::Pack => 65_536,
+        Command::Check | Command::Dump | Command::Pack | Command::Find(_) => 65_536,
         Command::Order(_) => 16_384,
     }
 }

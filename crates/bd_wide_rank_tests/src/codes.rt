@@ -40,6 +40,21 @@ fn not_a_number(rt: HostRuntime) -> Result<(), Fail> {
     Ok(())
 }
 
+/// The codes of the numbers of a table: first of those that are doubles.
+#[test]
+fn codes_of_a_table(rt: HostRuntime) -> Result<(), Fail> {
+    let mut numbers = Numbers::new(rt.alloc());
+    numbers.push(Number::Whole(2))?;
+    numbers.push(Number::Decimal128(1, 0x303e_0000_0000_0000))?;
+    numbers.push(Number::Double(0x7ff8_0000_0000_0000))?;
+    numbers.push(Number::Whole(1))?;
+    let table = numbers.into_table().expect(&rt, "few numbers");
+    table.nan_has_its_code_alone();
+    let codes = table.codes(rt.alloc())?;
+    assert_eq!(rt; codes.as_slice(), [1, 5, 7, 3].as_slice());
+    Ok(())
+}
+
 /// Numbers that repeat: 300 whole numbers, and 300 tenths, none of which is a double.
 #[test]
 fn repeated_numbers(rt: HostRuntime) -> Result<(), Fail> {

@@ -108,10 +108,11 @@ fn reports(rt: HostRuntime) {
     let usage = "usage: bsonwide dump FILE
        bsonwide check FILE
        bsonwide pack FILE
+       bsonwide find FILE [--query Q] [--sort S] [--skip N] [--limit N] [--batch N] [--index PATH] [--after TOKEN]
        bsonwide order FILE [PATH..]
 ";
-    let mut buffer = [0; 200];
-    let mut out = MemoryOutput::new(&mut buffer, 200, None);
+    let mut buffer = [0; 400];
+    let mut out = MemoryOutput::new(&mut buffer, 400, None);
     let mut err = MemoryOutput::new(&mut [], 1, None);
     assert!(rt; report(&WordsFault::Help, &mut out, &mut err) == Status::Done);
     assert!(rt; out.bytes() == usage.as_bytes());

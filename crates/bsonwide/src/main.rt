@@ -30,6 +30,7 @@ impl Program for Bsonwide {
             WideOrder::Dump { file } => Ok((Command::Dump, file)),
             WideOrder::Check { file } => Ok((Command::Check, file)),
             WideOrder::Pack { file } => Ok((Command::Pack, file)),
+            WideOrder::Find { file, options } => Ok((Command::Find(options), file)),
             WideOrder::Order { file, paths } => {
                 Ok((Command::Order(read_order(alloc, &paths)?), file))
             }
