@@ -10,23 +10,27 @@ _bsonkit() {
 	local word=${COMP_WORDS[COMP_CWORD]} command=${COMP_WORDS[1]} before=${COMP_WORDS[COMP_CWORD - 1]} options
 	COMPREPLY=()
 	if ((COMP_CWORD == 1)); then
-		mapfile -t COMPREPLY < <(compgen -W 'check dump pack find prepare audit salvage unpack compare query ids --help --version' -- "$word")
+		mapfile -t COMPREPLY < <(compgen -W 'check dump pack find prepare audit salvage unpack compare query count schema info grep ids --help --version' -- "$word")
 		return
 	fi
 	case $before in
-	--query | --sort | --index | --after | --skip | --limit | --batch | --jobs | --max-faults | --by | --only) return ;;
+	--query | --sort | --index | --after | --skip | --limit | --batch | --jobs | --max-faults | --by | --sum | --sample | --only | --regex | --timeout) return ;;
 	esac
 	if [[ $word != -* ]]; then
 		_bsonkit_files "$word"
 		return
 	fi
 	case $command in
-	find) options='--query --sort --index --after --skip --limit --batch --bson --copy' ;;
+	find) options='--query --sort --index --after --skip --limit --batch --bson' ;;
 	audit) options='--list --expect --json --quiet --jobs --max-faults' ;;
 	salvage) options='--good --bad --out' ;;
 	unpack) options='--only --no-crc' ;;
 	compare) options='--by' ;;
 	query) options='--list --query --jobs' ;;
+	count) options='--query --by --sum --json' ;;
+	schema) options='--sample --json' ;;
+	info) options='--list --json --jobs' ;;
+	grep) options='--list --regex --ignore-case --timeout --count --json --jobs' ;;
 	ids) options='--ids --missing --bson' ;;
 	*) options='' ;;
 	esac

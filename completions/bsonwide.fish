@@ -6,21 +6,42 @@ function __bsonwide_command
     test (count $words) -gt 1; and contains -- $words[2] $argv
 end
 
-# The same, and there is no file yet.
+# The same, and a file may stand here: there is none, and this is no value of an option.
 function __bsonwide_needs_file
     __bsonwide_command $argv; or return
     set -l words (commandline -opc)
+    set -l is_value 0
     for word in $words[3..]
-        string match -q -- '--*' $word; or return 1
+        if test $is_value = 1
+            set is_value 0
+        else if contains -- $word --query --sort --skip --limit --batch --index --after
+            set is_value 1
+        else if not string match -q -- '--*' $word
+            return 1
+        end
     end
+    test $is_value = 0
+end
+
+# Whether it is find, without this option.
+function __bsonwide_needs
+    __bsonwide_command find; and not string match -q -r -- "^--$argv(=|\$)" (commandline -opc)
 end
 
 complete -c bsonwide -f
-complete -c bsonwide -n 'not __bsonwide_command dump check pack order' -a dump -d 'print each document as a line'
-complete -c bsonwide -n 'not __bsonwide_command dump check pack order' -a check -d 'tell the first fault of each document'
-complete -c bsonwide -n 'not __bsonwide_command dump check pack order' -a pack -d 'turn lines of Extended JSON into a dump'
-complete -c bsonwide -n 'not __bsonwide_command dump check pack order' -a order -d 'rewrite numbers as whole numbers, for bsonfind find and serve'
-complete -c bsonwide -n 'not __bsonwide_command dump check pack order' -s h -l help -d 'print the usage'
-complete -c bsonwide -n '__bsonwide_needs_file dump check pack order' -a - -d 'standard input'
-complete -c bsonwide -n '__bsonwide_needs_file dump check order' -k -a '(__fish_complete_suffix .bson)'
+complete -c bsonwide -n 'not __bsonwide_command dump check pack find order' -a dump -d 'print each document as a line'
+complete -c bsonwide -n 'not __bsonwide_command dump check pack find order' -a check -d 'tell the first fault of each document'
+complete -c bsonwide -n 'not __bsonwide_command dump check pack find order' -a pack -d 'turn lines of Extended JSON into a dump'
+complete -c bsonwide -n 'not __bsonwide_command dump check pack find order' -a find -d 'print the documents that answer a query, in an order'
+complete -c bsonwide -n 'not __bsonwide_command dump check pack find order' -a order -d 'rewrite numbers as whole numbers, for bsonfind find and serve'
+complete -c bsonwide -n 'not __bsonwide_command dump check pack find order' -s h -l help -d 'print the usage'
+complete -c bsonwide -n '__bsonwide_needs_file dump check pack find order' -a - -d 'standard input'
+complete -c bsonwide -n '__bsonwide_needs_file dump check find order' -k -a '(__fish_complete_suffix .bson)'
 complete -c bsonwide -n '__bsonwide_needs_file pack' -F
+complete -c bsonwide -n '__bsonwide_needs query' -l query -x -d 'the query, as {"age":{"$gte":18}}'
+complete -c bsonwide -n '__bsonwide_needs sort' -l sort -x -d 'the sort, as {"age":-1}'
+complete -c bsonwide -n '__bsonwide_needs skip' -l skip -x -d 'pass over N documents'
+complete -c bsonwide -n '__bsonwide_needs limit' -l limit -x -d 'at most N documents'
+complete -c bsonwide -n '__bsonwide_needs batch' -l batch -x -d 'the next N documents'
+complete -c bsonwide -n '__bsonwide_needs index' -l index -x -d 'find by an index on the path, as address.city'
+complete -c bsonwide -n '__bsonwide_needs after' -l after -x -d 'go on after a token'

@@ -27,7 +27,7 @@ if TYPE_CHECKING:
         find as find,
         find_one as find_one,
     )
-    from ._ask.copies import prepare as prepare
+    from ._ask.kept import prepare as prepare
     from ._ask.merge import Check as Check, check_parts as check_parts, count_parts as count_parts, find_parts as find_parts
     from ._ask.sessions import Cursor as Cursor, Session as Session
     from ._ask.values import ObjectId as ObjectId
@@ -60,7 +60,7 @@ if TYPE_CHECKING:
 _MODULES = {
     "_ask.aio": ["AsyncCursor", "AsyncSession"],
     "_ask.answers": ["Answer", "count_documents", "distinct", "explain", "find", "find_one"],
-    "_ask.copies": ["prepare"],
+    "_ask.kept": ["prepare"],
     "_ask.merge": ["Check", "check_parts", "count_parts", "find_parts"],
     "_ask.sessions": ["Cursor", "Session"],
     "_ask.values": ["ObjectId"],

@@ -37,6 +37,8 @@ class CommandError(BsonfindError):
     def __init__(self, layer: str, number: int, text: str, place: str | int | None = None) -> None:
         super().__init__(layer, number, text, place)
         self.layer, self.number, self.text, self.place = layer, number, text, place
+        # The message of a run, which begins with the option that is refused.
+        self.line: str | None = None
 
     def __str__(self) -> str:
         if self.place is None:

@@ -77,6 +77,10 @@ class Room(unittest.TestCase):
         self.script(f"# it answers --version too\n{first.format('WIDE')}", "bsonwide")
         return self.script(first.format("PROGRAM"))
 
+    def stuck_searches(self) -> str:
+        """The programs, of which all runs of `find` but the first never answer; `pids` has the numbers of those."""
+        return self.wide('if mkdir "$ROOM/first" 2>/dev/null; then exec "$WIDE" "$@"; fi\necho $$ >>"$ROOM/pids"\nexec sleep 600')
+
     def interrupt(self, code: str, stuck: int) -> int:
         """Interrupts Python alone once so many programs are stuck below it, and gives its status; none of them may be left."""
         code = f"import signal\nsignal.signal(signal.SIGINT, signal.default_int_handler)\n{code}"

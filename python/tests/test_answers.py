@@ -35,7 +35,7 @@ class Answers(Room):
         for words, wanted in (
             ({"filter": {"$or": [{"a": 1}, {"b": {"$regex": "^A"}}]}}, ("filter", 2, "not in the profile", "$or.1.b.$regex")),
             ({"filter": {"a.": 1}}, ("filter", 5, "bad path", "a.")),
-            ({"filter": {"a": {"$size": 1.5}}}, ("json", 5, "not in the profile", 14)),
+            ({"filter": {"a": {"$size": 1.5}}}, ("filter", 3, "bad operand", "a.$size")),
             ({"filter": {"$numberInt": "1"}}, ("json", 2, "not a document", None)),
             ({"sort": {"a": 0.5}}, ("json", 5, "not in the profile", 5)),
             ({"sort": {"a": 3}}, ("session", 1, "not a sort", None)),
@@ -66,20 +66,20 @@ class Answers(Room):
         with self.assertRaises(ProgramError):
             next(find(PEOPLE, program="no-such-program"))
         with self.assertRaises(ProgramError) as raised:
-            list(find(PEOPLE, program=self.script("printf '{\"a\":1}\\n{\"a\"'\nkill -9 $$")))
+            list(find(PEOPLE, program=self.wide("printf '{\"a\":1}\\n{\"a\"'\nkill -9 $$")))
         self.assertEqual(str(raised.exception), "ended by signal 9")
 
     def test_programs_that_are_not_bsonfind(self) -> None:
         """What they print is no document."""
         for text in ("hello", "5", '{"a":', "[]", "\\377"):
-            program = self.script(f"printf '%b\\n' '{text}'")
+            program = self.wide(f"printf '%b\\n' '{text}'")
             for decode in ("dict", "plain"):
                 with self.subTest(text), self.assertRaises(ProgramError) as raised:
                     find_one(PEOPLE, decode=decode, program=program)
                 self.assertIn("not bsonfind", str(raised.exception))
 
     def test_answer_that_is_left(self) -> None:
-        program = self.script('echo $$ >"$ROOM/pid"\nprintf \'{"a":1}\\n\'\nexec sleep 600')
+        program = self.wide('echo $$ >"$ROOM/pid"\nprintf \'{"a":1}\\n\'\nexec sleep 600')
         with find(PEOPLE, program=program) as answer:
             self.assertEqual(next(answer), {"a": 1})
         self.assertEqual(list(answer), [])

@@ -223,7 +223,7 @@ class Programs(Room):
             (("find", plain, "--bson"), 1), (("prepare", plain, f"{self.room}/copy"), 1), (("audit", bad, plain), 2),
             (("salvage", plain, "--good", f"{self.room}/g", "--bad", f"{self.room}/b"), 2),
             (("salvage", f"{self.room}/backup", "--out", f"{self.room}/out"), 2), (("compare", plain, plain), 2),
-            (("query", plain, wide, "--query", '{"d":1.5}'), 2), (("ids", wide, "--ids", ids), 2), (("ids", plain, "--ids", ids, "--bson"), 2),
+            (("query", plain, wide, "--query", '{"d":1.5}'), 2), (("info", wide), 2), (("grep", "ada", plain), 2), (("ids", wide, "--ids", ids), 2), (("ids", plain, "--ids", ids, "--bson"), 2),
         ]  # fmt: skip
 
     def test_version(self) -> None:
@@ -256,7 +256,7 @@ class Programs(Room):
             self.script(f'echo {name} >>"$ROOM/starts"\nexec "{real}" "$@"', f"bin/{name}")
             self.script("exit 7", f"other/{name}")
         env = {**os.environ, "PYTHONPATH": str(packages), "PATH": f"{self.room}/other:{os.environ['PATH']}"}
-        for words, wanted in ((("check", str(PEOPLE)), "bsonwide"), (("find", str(SHOP), "--limit", "1"), "bsonfind"), (("audit", str(PEOPLE)), "bsonwide")):
+        for words, wanted in ((("check", str(PEOPLE)), "bsonwide"), (("find", str(SHOP), "--limit", "1"), "bsonwide"), (("audit", str(PEOPLE)), "bsonwide")):
             run = subprocess.run([sys.executable, "-m", "bsonfind", *words], env=env, cwd=self.room, capture_output=True, text=True)
             self.assertEqual(run.returncode, 0, run.stderr)
             self.assertEqual({*(self.room / "starts").read_text().split()}, {wanted})

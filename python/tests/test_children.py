@@ -5,7 +5,7 @@ import sys
 from typing import List, Tuple
 
 from .support import DAMAGED, PATIENCE, PROGRAM, Room, environment
-from .test_ordered import FIRST, GOODS
+from .goods import FIRST, GOODS
 
 # What takes the statuses, in a process that begins with it.
 WAYS = {
@@ -79,7 +79,7 @@ class Children(Room):
         status, lines, told = self.run_command("find", path, "--query", '{"price":9.5}')
         self.assertEqual((status, lines, told[:17]), (0, [FIRST], "1 documents, end,"))
         self.assertEqual(self.run_command("check", bad), (1, [fault], "7 documents, 1 faulty\n"))
-        self.assertEqual(self.run_command("find", bad), (1, [], f"bsonkit: {fault}\n"))
+        self.assertEqual(self.run_command("find", bad), (1, [], f"bsonwide: {fault}\n"))
         # Of one plain file the command becomes the program, which has its own name.
         self.assertEqual(self.run_command("dump", bad)[::2], (1, f"bsonwide: {fault}\n6 objects found\n"))
 
@@ -88,7 +88,7 @@ class Children(Room):
         # Each has a number of 12 bytes more, two decimal128 are 8 bytes shorter, and an int32 is 4 longer.
         size = len(GOODS[0] + GOODS[1]) + 2 * 12 - 2 * 8 + 4
         path, quiet = self.file(b"".join(GOODS)), "2>/dev/null"
-        for command, said, failed in (("order", "", range(7)), ("check", quiet, (5, 6, 7)), ("dump", quiet, (0,))):
+        for command, said, failed in (("order", "", range(3, 7)), ("check", quiet, (5, 6, 7)), ("find", quiet, range(3))):
             cut = f'"$WIDE" "$@" {said} | head -c {size}\nkill -9 $$'
             program = self.wide(f'if [ $1 = {command} ]; then {cut}; fi\nexec "$WIDE" "$@"')
             for way in WAYS:

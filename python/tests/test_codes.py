@@ -8,7 +8,8 @@ from fractions import Fraction
 from typing import List, Optional, Tuple
 
 from bsonfind import CommandError
-from bsonfind._ask.codes import Query, code, level_after, number_of, read_json, read_query, readings, whole
+from bsonfind._ask.codes import code, level_after, number_of, read_json, whole
+from bsonfind._ask.queries import Query, read_query, readings
 from bsonfind._dumps.numbers import number_in
 
 NAN = '{"$numberDouble":"NaN"}'

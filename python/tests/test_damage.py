@@ -10,7 +10,7 @@ from bsonfind._backup.backups import Dump
 from bsonfind._backup.query import query_dumps
 
 from .support import PROGRAM, Room
-from .test_ordered import array, document, double, embedded, whole
+from .goods import array, document, double, embedded, whole
 
 
 def text(name: str, value: bytes) -> bytes:

@@ -13,8 +13,6 @@ SOURCES = PACKAGE / "bsonfind"
 # A module imports from its own folder and from those before it; the first has the modules beside the folders.
 FLOORS = ("", "_run", "_dumps", "_ask", "_backup", "_command")
 MOST_LINES = 350
-# These go once `bsonwide` searches dumps with doubles by itself.
-LONGER = {"_ask/copies", "_ask/codes"}
 # How many modules `--help` may import beside those of Python's own start; ours among them.
 MOST_IMPORTED, MOST_OWN = 60, 12
 # What reads what a program printed.
@@ -26,16 +24,13 @@ READERS = {
 PLACES = {
     "_ask/copies.Codes.raise_level": "makes an error of a message",
     "_ask/copies.Ordering.is_last": "takes a run that says nothing for one that refused nothing",
-    "_ask/copies.Original.fault": "takes the first fault",
-    "_ask/copies.Original.given": "takes the numbers of documents out of the lines of a copy",
-    "_ask/copies.Original.lines": "moves the place of a fault to that in the dump; compares the count with that of what was given",
-    "_ask/copies._unread": "makes an error of a message",
     "_ask/copies.connect_copy": "takes a run that says nothing for one that refused nothing",
     "_ask/decoding.batches_by": "cuts a batch into its documents",
-    "_ask/lines.Lines._by_run": "passes lines on, and the end and the token",
+    "_ask/lines.Lines._by_number": "takes the numbers of documents out of lines",
+    "_ask/lines.Lines._read": "passes lines on, and the end and the token",
+    "_ask/lines.Lines.count": "takes the count",
     "_ask/lines.counted": "reads the line of the count",
     "_ask/merge._check": "moves the places of faults to those in the whole file",
-    "_ask/merge._finish": "waits for the lines of the counts",
     "_ask/questions.Questions._asked_by": "cuts a batch into its documents",
     "_ask/replies.read_batch": "reads a reply",
     "_ask/steps.Reading._read": "reads a reply",
@@ -44,12 +39,15 @@ PLACES = {
     "_backup/beginnings.Check.faults": "compares the count with that of what was given",
     "_backup/ids._Finding.pass_on": "passes lines on; takes a document that dump refuses for one with a fault",
     "_backup/query._answer": "passes lines on",
-    "_command/finding.Finding._print_own": "passes the line of the count on",
-    "_command/finding.Finding._refused_sort": "passes a message on",
+    "_backup/reading._Batch.good": "notes faults, and leaves out their documents; compares the count with that of what was given",
+    "_command/finding.Finding._print_lines": "passes the line of the count on",
     "_dumps/checking.Checking.faults": "moves the places of faults of an input to those in the dump, and adds up the counts",
     "_dumps/checking.begins_wide": "looks whether the first fault is a double",
     "_dumps/checking.faults_of": "reads the lines of faults",
     "_dumps/checking.finish_check": "reads the line of the count; compares it with that of what was given",
+    "_dumps/originals.Original.fault": "takes the first fault",
+    "_dumps/originals.Original.given": "takes the numbers of documents out of the lines of a copy",
+    "_dumps/originals.Original.lines": "moves the place of a fault to that in the dump",
     "_dumps/passing.each_document": "raises the first fault; adds up the counts of inputs",
     "_dumps/printing.Printing._of": "passes lines on; moves the place of a fault to that in the dump",
     "_dumps/printing.finish_dump": "reads the line of the count",
@@ -63,7 +61,6 @@ PLACES = {
 }
 # Where what was printed, or the bytes of a dump, are compared, put in order or counted, and why that decides no answer of a query.
 DECIDES = {
-    "_ask/copies.numbers_in": "the numbers of documents that a search over a copy gives; goes with the copies",
     "_ask/distinct.Distinct.add": "takes each value of a field once; which documents match is the program's answer",
     "_ask/merge.count_parts": "adds up the counts of parts that have no document in common",
     "_ask/merge.check_parts": "the same of faults",
@@ -71,8 +68,17 @@ DECIDES = {
     "_backup/beginnings.Beginnings._chain": "guesses where documents go on, of which check says whether they have a fault",
     "_backup/compare._by_key": "documents are the same if their bytes are: that is what the command says",
     "_backup/compare._compare_sorted": "counts them",
+    "_backup/count.Count._take_by": "counts documents by the bytes of their values; which documents match is the program's answer",
+    "_backup/count.Count.rows": "values are one if their numbers or their texts are equal: that is what the command says",
     "_backup/ids._Finding.look_at": "an id is found if the bytes of a document's id are the same, or its number is: that is what the command says",
+    "_backup/info._ordered": "puts collections in the order of their names",
+    "_backup/search.Search._matches": "a text is found where its bytes, or a pattern, are in a value: that is what the command says",
+    "_backup/search.Search._matches_value": "the same of an id and of a UUID",
     "_backup/reports.Report.compare": "compares a count with that in the log",
+    "_backup/schema.Schema._look_at": "counts the types of values, and keeps the least and the greatest: that is what the command says",
+    "_backup/sums.Sum.add": "adds numbers, exactly: that is what the command says",
+    "_backup/texts.order_of": "sorts rows of equal counts, and the values of a schema",
+    "_dumps/originals.numbers_in": "the numbers of the documents that the program found, each of which it has as its first field",
     "_dumps/framing.walk": "the lengths of documents, before a run reads them",
 }
 
@@ -114,7 +120,7 @@ class House(unittest.TestCase):
         for file in SOURCES.rglob("*.py"):
             name = str(file.relative_to(SOURCES))[:-3]
             lines = len(file.read_text(encoding="utf-8").splitlines())
-            self.assertEqual(lines > MOST_LINES, name in LONGER, f"{name} has {lines} lines")
+            self.assertLessEqual(lines, MOST_LINES, name)
 
     def test_types(self) -> None:
         """mypy finds nothing, in its strict mode."""

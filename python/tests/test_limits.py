@@ -16,8 +16,8 @@ FIELDS = [{f"f{number}": 1.5} for number in range(8)]
 
 class Deadlines(Room, unittest.IsolatedAsyncioTestCase):
     def stalled(self) -> str:
-        """Programs that never come to the end of a copy."""
-        return self.wide('[ "$1" = order ] && exec sleep 600\nexec "$WIDE" "$@"')
+        """Programs that never come to the end of a copy, or of an answer."""
+        return self.wide('case $1 in order | find) exec sleep 600 ;; esac\nexec "$WIDE" "$@"')
 
     def in_time(self, ask: Callable[[], object]) -> None:
         """It takes no longer than its seconds, whatever it waits for."""

@@ -89,6 +89,6 @@ with Session({str(path)!r}, {PROGRAM!r}) as session:
                 ("after", "token: not a token"),
             ):
                 ran = self.run_in({}, "--program", PROGRAM, "find", path, f"--{option}", "")
-                self.assertEqual((ran.returncode, ran.stdout, ran.stderr), (1, b"", f"bsonkit: {told}\n".encode()))
+                self.assertEqual((ran.returncode, ran.stdout, ran.stderr), (1, b"", f"bsonwide: {told}\n".encode()))
             ran = self.run_in({}, "--program", PROGRAM, "query", path, "--query", "")
             self.assertEqual((ran.returncode, ran.stdout, ran.stderr), (2, b"", b"bsonkit: json: byte 0: not JSON\n"))

@@ -98,7 +98,8 @@ class Interrupts(Room):
             (["compare", str(PEOPLE), str(SHOP)], 1),
             (["ids", str(PEOPLE), "--ids", str(ids)], 1),
         ):
-            code = f"import sys\nfrom bsonfind.__main__ import main\nsys.exit(main({['--program', self.stuck(), *words]!r}))"
+            program = self.stuck_searches() if words[0] == "query" else self.stuck()
+            code = f"import sys\nfrom bsonfind.__main__ import main\nsys.exit(main({['--program', program, *words]!r}))"
             self.assertEqual(self.interrupt(code, stuck), 130)
             (self.room / "first").rmdir()
             (self.room / "pids").unlink()

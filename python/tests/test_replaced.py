@@ -11,7 +11,7 @@ from unittest import mock
 from bsonfind import AsyncSession, DumpError, Session, find, plan, prepare
 
 from .support import PEOPLE, PROGRAM, Room, run_package
-from .test_ordered import document, double, whole
+from .goods import document, double, whole
 
 # Two versions of a dump with as many bytes; the last document has a double, which has the program refuse it at first.
 OLD = [document(whole("_id", it), whole("old", it)) for it in range(3)] + [document(double("x", 1.5))]
@@ -108,13 +108,13 @@ class Replaced(Room):
         self.assertFalse((self.room / "copy").exists() or (self.room / "copy.json").exists())
 
     def test_commands(self) -> None:
-        """The dump is replaced after the first run: that of `check` or `dump`, and one that refuses it for its double."""
+        """The dump is replaced after the first run."""
         after = 'if [ -e "$ROOM/next" ]; then mv "$ROOM/next" "$ROOM/dump.bson"; elif [ -e "$ROOM/later" ]; then mv "$ROOM/later" "$ROOM/next"; fi'
         for name, real in (("bsonwide", "WIDE"), ("program", "PROGRAM")):
             program = self.script(f'"${real}" "$@"\nstatus=$?\n{after}\nexit $status', name)
         ids = self.file(b"0\n1\n", "ids")
         # A second file makes of these two commands more than one run of the program.
-        for words in (["check"], ["dump"], ["find"], ["query"], ["ids", "--ids", str(ids)]):
+        for words in (["check"], ["dump"], ["query"], ["ids", "--ids", str(ids)]):
             self.path.unlink()
             self.file(b"".join(OLD))
             # The first run of these asks no documents.
@@ -125,6 +125,11 @@ class Replaced(Room):
                 self.assertEqual(run.returncode, 2 if words[0] in ("query", "ids") else 1)
                 self.assertRegex(run.stderr, CHANGED)
                 self.assertNotIn("new", run.stdout)
+        for how in ({}, {"decode": "bson"}):
+            self.path.unlink()
+            self.file(b"".join(OLD))
+            self.file(b"".join(NEW), "next")
+            self.refused(lambda: list(find(self.path, program=program, **how)))
 
     def test_hard_links_and_modes(self) -> None:
         """They count as changes, since the time that shows a replaced file shows them too."""

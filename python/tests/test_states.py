@@ -269,7 +269,8 @@ class LongQuestions(Room):
     """Timeouts and cancelling."""
 
     def slow(self) -> str:
-        """A program that never answers."""
+        """Programs that never answer."""
+        self.script("exec sleep 600", "bsonwide")
         return self.script("exec sleep 600")
 
     def test_timeouts(self) -> None:
@@ -288,10 +289,10 @@ class LongQuestions(Room):
             self.assertLess(time.monotonic() - begun, 20)
 
     def test_timeout_of_a_part(self) -> None:
-        first = 'if mkdir "$ROOM/first" 2>/dev/null; then exec "$PROGRAM" "$@"; fi\nexec sleep 600'
+        first = 'if mkdir "$ROOM/first" 2>/dev/null; then exec "$WIDE" "$@"; fi\nexec sleep 600'
         for workers in (1, 3):
             with self.subTest(workers), self.assertRaises(TimedOutError):
-                find_parts(plan(PEOPLE, 40_000), workers=workers, program=self.script(first), timeout=0.5)
+                find_parts(plan(PEOPLE, 40_000), workers=workers, program=self.wide(first), timeout=0.5)
 
     def test_timeout_of_a_command(self) -> None:
         program = self.script('read line\necho \'{"ok":true}\'\nexec sleep 600')
@@ -374,11 +375,11 @@ class Failing(Room):
     """Parts that fail end the others at once."""
 
     def test_first_part_that_fails(self) -> None:
-        """The last part, which begins with a document of 16 bytes, fails at once, and the others would take ten minutes."""
-        program = self.script(
-            '[ "$1" = pack ] && exec "$PROGRAM" "$@"\n'
-            '[ "$(dd bs=1 count=1 2>/dev/null | od -An -tu1 | tr -d " ")" = 16 ] || exec sleep 600\n'
-            'echo "bsonfind: document 0, byte 4, path \\"d\\": bad boolean" >&2\nexit 1'
+        """The last part, which begins with a document of 16 bytes and its number of 6, fails at once, and the others would take ten minutes."""
+        program = self.wide(
+            '[ "$1" = check ] && exec "$WIDE" "$@"\n'
+            '[ "$(dd bs=1 count=1 2>/dev/null | od -An -tu1 | tr -d " ")" = 22 ] || exec sleep 600\n'
+            'echo "bsonwide: document 0, byte 4, path \\"d\\": bad boolean" >&2\nexit 1'
         )
         parts = plan(PEOPLE, 40_000) + plan(self.file(DOUBLE))
         begun = time.monotonic()

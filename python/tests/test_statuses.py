@@ -174,5 +174,5 @@ class Statuses(Room):
                 wait_for(lambda: bool(pids.read_text()))
                 run.send_signal(number)
                 with self.subTest(f"{command} {number.name}"):
-                    # A plain file is checked and printed by the program itself, which the signal ends.
-                    self.assertEqual(run.wait(60), -number if command in ("check", "dump") else 128 + number)
+                    # A plain file is read by the program itself, which the signal ends.
+                    self.assertEqual(run.wait(60), -number if command in ONE_RUN else 128 + number)

@@ -8,7 +8,7 @@ import time
 from typing import Iterator, List, Tuple
 
 from .support import PATIENCE, PROGRAM, Room, environment
-from .test_ordered import document, double, whole
+from .goods import document, double, whole
 
 DOCUMENTS = [document(whole("_id", it)) for it in range(3)] + [document(double("x", 1.5))]
 DATA = b"".join(DOCUMENTS)

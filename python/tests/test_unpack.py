@@ -32,7 +32,7 @@ from bsonfind import (
 from .archives import END, MAGIC, METADATA, archive, block, block_header, crc64, documents_of, end, header, listed, prelude
 from .support import DOUBLE, PEOPLE, PEOPLE_LINES, PROGRAM, Room, environment, run_package, wait_for
 from .test_archive import PEOPLE_DATA, SHOP_DATA, small
-from .test_ordered import GOODS
+from .goods import GOODS
 
 TWO = archive([("shop", "orders", SHOP_DATA), ("club", "people", PEOPLE_DATA)])
 

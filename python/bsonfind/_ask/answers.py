@@ -10,7 +10,6 @@ from .._names import File, name_of
 from .._numbers import seconds, whole
 from .._run.processes import Group, check_owner
 from . import steps
-from .copies import AnyLines
 from .decoding import Decode, Dicts, Raw, Texts, decoder, with_uuids
 from .distinct import Distinct, Values
 from .lines import Lines
@@ -138,7 +137,7 @@ def find(
     request, group = Request.of(filter, sort, skip, limit, uuid_representation), Group()
     whole("batch_size", batch_size)
     size = None if page is None else whole("page", page)
-    lines = AnyLines(name_of(path), request, program, is_bson=decode == "bson", size=size, index=index, after=after, group=group)
+    lines = Lines(name_of(path), request, program, is_bson=decode == "bson", size=size, index=index, after=after, group=group)
     return Answer(lines, group, with_uuids(decode, uuid_representation), timeout)
 
 
@@ -185,10 +184,9 @@ def count_documents(
     timeout: float | None = None,
 ) -> int:
     """How many documents of a dump match."""
-    request = Request.of(filter, uuids=uuid_representation)
-    group = Group()
-    with group.within(seconds(timeout)), Questions(path, program, group=group) as questions:
-        return now(questions.ask(steps.count, request))
+    request, group = Request.of(filter, uuids=uuid_representation), Group()
+    with group.within(seconds(timeout)):
+        return Lines(name_of(path), request, program, group=group).count()
 
 
 def distinct(

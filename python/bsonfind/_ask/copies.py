@@ -1,4 +1,4 @@
-"""Questions about dumps with doubles and decimal128: they are asked of a copy, in which `bsonwide order` writes numbers by codes.
+"""Sessions over dumps with doubles and decimal128: they ask a copy, in which `bsonwide order` writes numbers by codes.
 
 A copy has the documents of the dump in the same order, each with its number as its first field. What is given back are the
 documents of the dump. The program reads a copy through a pipe while it is written, and nothing is believed that it says before
@@ -13,205 +13,31 @@ copy is written, the dump without these numbers stands in a file without a name,
 from __future__ import annotations
 
 import json
-import os
 import re
 import select
 import subprocess
-import tempfile
-import threading
-from array import array
-from contextlib import ExitStack, closing, contextmanager
-from dataclasses import asdict, dataclass, field, replace
-from itertools import islice
-from pathlib import Path
-from typing import BinaryIO, Callable, Iterable, Iterator, Sequence
+from contextlib import ExitStack, contextmanager
+from dataclasses import dataclass, field
+from typing import BinaryIO, Callable, Iterable, Iterator
 
-from .._dumps import framing
-from .._dumps.checking import NOT_READ, begins_wide, checking, faults_of, finish_check, is_wide
-from .._dumps.files import FileState
-from .._dumps.numbers import Value, number_in
-from .._dumps.outputs import Output, refuse_names
-from .._dumps.printing import Batches, finish_dump, lines_of, refuse_other_count
-from .._dumps.sources import Input, Source, up_to_error
-from .._errors import ArgumentError, CommandError, DumpError, ProgramError
-from .._names import File, name_of, name_of_file
+from .._dumps.checking import NOT_READ
+from .._dumps.originals import Original, no_space, temporary_file
+from .._errors import CommandError, DumpError, ProgramError
 from .._run.messages import error_of
 from .._run.processes import Dump, Group, Run
 from .._run.wide import wide_program
 from . import steps
-from .codes import Probe, Query, level_after, read_json, read_query, refused, word_of
+from .codes import level_after, read_json, refused, word_of
 from .connections import Connection
 from .hiding import hide
-from .lines import Lines, counted
-from .plans import Plan, now
+from .plans import Plan
+from .queries import Probe, Query, read_query
 from .requests import Request
 
 _REFUSED = re.compile(r'document (\d+), byte (\d+), path (".*"): (?:not a whole number of 64 bits|no double equals it)')
-# The number of a document at the start of its line.
-_NUMBERED = re.compile(rb'\{"~n":\{"\$numberLong":"([0-9]+)"\}')
-_PIECE = 1 << 20
-# How many bytes of a field are read: more than the name of most, and its number.
-_FIELD = 1 << 10
-# The end of the name of a file that describes a copy.
-_ABOUT = ".json"
-# What the file says of the form of the copy, in which numbers stand first.
-_VERSION = 1
 _NO_CODES = "no codes hold all numbers of this field: ask by other fields, or search the lines of dump"
 # At how many paths numbers are hidden at most, since each is found by some runs.
 _MOST_HIDDEN = 100
-
-
-class Original:
-    """The documents of a dump in an open file, and where each of them ends."""
-
-    def __init__(self, file: BinaryIO, is_own: bool = True) -> None:
-        """A file that is not its own stays open."""
-        self._file, self._is_own, self._state = file, is_own, FileState.of(file)
-        # Where documents end, as far as that was asked for.
-        self._ends, self._lock = array("Q"), threading.Lock()
-        self._count: int | None = None
-        # How many documents and bytes of a larger dump stand before them.
-        self.first = self.offset = 0
-
-    @classmethod
-    def of(cls, source: Source) -> Original:
-        """Those of a dump. What is packed, or can be read only once, is written to a file without a name."""
-        return cls(source.file, is_own=False) if source.is_plain else cls.of_pieces(source.pieces())
-
-    @classmethod
-    def of_pieces(cls, pieces: Iterable[bytes]) -> Original:
-        """Those of some bytes."""
-        return Spool(pieces).original()
-
-    @property
-    def dump(self) -> Dump:
-        """What a run reads."""
-        return Dump(file=self.rewound())
-
-    def rewound(self) -> BinaryIO:
-        """The file, from its beginning on."""
-        self._file.seek(0)
-        return self._file
-
-    def documents(self, numbers: Sequence[int]) -> list[bytes]:
-        """The documents of these numbers, as they are."""
-        self._walk_past(max(numbers, default=-1))
-        found = []
-        for number in numbers:
-            start, end = self._place(number)
-            found.append(framing.read_at(self._file, start, end - start, end - start))
-        self._state.refuse_other(self._file)
-        return found
-
-    def lines(self, numbers: Sequence[int], program: str, group: Group | None = None) -> list[bytes]:
-        """The lines of the documents of these numbers."""
-        if not numbers:
-            return []
-        documents = self.documents(numbers)
-        with Run([wide_program(program, group), "dump", "-"], documents, group=group) as run:
-            lines = [line for batch in lines_of(run.stdout) for line in batch]
-            try:
-                refuse_other_count(finish_dump(run), len(documents))
-            except DumpError as error:
-                if error.fault:
-                    at = error.fault.document
-                    start = self._place(numbers[at])[0] - sum(map(len, documents[:at]))
-                    fault = error.fault.moved(numbers[at] - at, start)
-                    raise DumpError(str(fault), fault) from None
-                raise
-        return lines
-
-    def count(self) -> int:
-        """How many documents there are, by their lengths."""
-        if self._count is None:
-            self._count = sum(1 for _ in framing.walk(self._file))
-        return self._count
-
-    def number_at(self, place: int) -> Value | None:
-        """The value of the number whose field begins at a place, None where it is not seen."""
-        return number_in(os.pread(self._file.fileno(), _FIELD, place))
-
-    def given(self, lines: Sequence[bytes], is_bson: bool, program: str, group: Group) -> list[bytes]:
-        """The documents, or their lines, of those that have these lines in a copy."""
-        numbers = numbers_in(lines)
-        return self.documents(numbers) if is_bson else self.lines(numbers, program, group)
-
-    def fault(self, program: str, group: Group | None) -> DumpError | None:
-        """The first damage, where there is some."""
-        with checking(Input(0, 0, self.rewound(), None), program, group) as run:
-            for fault in faults_of(run):
-                return DumpError(str(fault), fault)
-            finish_check(run, self.count())
-        return None
-
-    def _walk_past(self, number: int) -> None:
-        """Finds where documents end, as far as the one of this number does."""
-        with self._lock:
-            ends = self._ends
-            ends.extend(islice(framing.walk(self._file, ends[-1] if ends else 0), max(0, number + 1 - len(ends))))
-            if number >= len(ends):
-                raise DumpError("the file was written to since it was opened")
-
-    def _place(self, number: int) -> tuple[int, int]:
-        return self._ends[number - 1] if number else 0, self._ends[number]
-
-    def close(self) -> None:
-        """Closes the file."""
-        if self._is_own:
-            self._file.close()
-
-
-class Spool:
-    """Bytes that can be read once, which are kept in a file without a name as they pass."""
-
-    def __init__(self, pieces: Iterable[bytes]) -> None:
-        self._file = temporary_file()
-        self.pieces = self._kept(pieces)
-
-    def _kept(self, pieces: Iterable[bytes]) -> Iterator[bytes]:
-        for piece in pieces:
-            try:
-                self._file.write(piece)
-            except OSError as error:
-                raise _no_room() from error
-            yield piece
-
-    def original(self) -> Original:
-        """The documents, once all is read."""
-        try:
-            for _ in self.pieces:
-                pass
-        except BaseException:
-            self._file.close()
-            raise
-        return Original(self._file)
-
-    def close(self) -> None:
-        """Closes the file."""
-        self._file.close()
-
-
-def temporary_file() -> BinaryIO:
-    """A file without a name."""
-    try:
-        return tempfile.TemporaryFile(buffering=0)  # type: ignore[return-value]
-    except OSError as error:
-        raise _no_room() from error
-
-
-def _no_room() -> ProgramError:
-    return ProgramError(f"cannot write a copy of the dump in {tempfile.gettempdir()}: TMPDIR names another directory")
-
-
-def numbers_in(lines: Iterable[bytes]) -> list[int]:
-    """The numbers of the documents of a copy, by their lines."""
-    numbers = []
-    for line in lines:
-        found = _NUMBERED.match(line)
-        if not found:
-            raise ProgramError("a document of the copy has no number")
-        numbers.append(int(found.group(1)))
-    return numbers
 
 
 def paths_of(request: Request) -> list[str]:
@@ -254,7 +80,7 @@ class Codes:
         line = told.rpartition("bsonwide: ")[2]
         found = _REFUSED.fullmatch(line)
         if line == "cannot write":
-            raise _no_room()
+            raise no_space()
         if not found:
             raise DumpError(line) if line.startswith("document ") else error_of(1, f"bsonfind: {line}" if line else "")
         document, byte, text = found.groups()
@@ -263,8 +89,7 @@ class Codes:
         if path not in self.hidden and level is not None:
             self.levels[path] = level
             return False
-        place = f"document {int(document) + original.first}, byte {int(byte) + original.offset}, path {text}"
-        why = f"{place}: {_NO_CODES}"
+        why = f"document {document}, byte {byte}, path {text}: {_NO_CODES}"
         if path in self.hidden or query.reaches(path) or len(self.hidden) == _MOST_HIDDEN:
             raise _NoCodesError(why, path)
         self.hidden[path] = why
@@ -415,7 +240,7 @@ def _hide(original: Original, codes: Codes, group: Group, out: BinaryIO) -> None
                     break
                 whole.write(piece)
     except OSError as error:
-        raise _no_room() from error
+        raise no_space() from error
 
 
 @contextmanager
@@ -443,12 +268,11 @@ def query_of(request: Request, is_copied: bool, program: str) -> Query | None:
 
 def _unread(request: Request, program: str) -> CommandError:
     """Why the text of a query says nothing of numbers: what the program refuses it for."""
-    try:
-        if not request.is_long:
-            with Run([program, "find", "-", *request.words()]) as run:
-                counted(run)
-    except CommandError as error:
-        return error
+    if not request.is_long:
+        with Run([program, "find", "-", *request.words()]) as run:
+            error = run.error()
+        if isinstance(error, CommandError):
+            return error
     return refused("the text of the query is not read")
 
 
@@ -466,220 +290,3 @@ def refuse_matches(connection: Connection, probes: Iterable[Probe], request: Req
         if found:
             raise refused(probe.why, probe.place)
         connection.without_matches.add(probe.text)
-
-
-class AnyLines(Lines):
-    """The lines that answer a request over any dump, or with `is_bson` the documents as they are."""
-
-    def __init__(
-        self,
-        path: File | Source | Original,
-        request: Request,
-        program: str,
-        *,
-        is_bson: bool = False,
-        is_known: bool = False,
-        copy: File | None = None,
-        size: int | None = None,
-        index: str | None = None,
-        after: str | None = None,
-        group: Group | None = None,
-    ) -> None:
-        """A file is opened once lines are asked for. Where it is known that the program refuses the dump for its numbers, or a copy
-        was kept, the dump is not asked.
-        """
-        super().__init__(Dump(), request, program, size=size, index=index, after=after, group=group)
-        self._path = path
-        self._original = path if isinstance(path, Original) else None
-        self._source = path if isinstance(path, Source) else None
-        self._is_bson, self._is_copied, self._copy = is_bson, is_bson or is_known or copy is not None, copy
-
-    def batches(self) -> Batches:
-        """The lines as they come, without their newlines, or documents. Closing this ends the program."""
-        with ExitStack() as files:
-            if not isinstance(self._path, (Source, Original)):
-                self._source = files.enter_context(Source(name_of_file(self._path), is_named=True))
-            for lines in files.enter_context(closing(self._lines(files))):
-                self._check()
-                yield lines
-            self._check()
-
-    def _check(self) -> None:
-        if self._source:
-            self._source.check()
-
-    def _lines(self, files: ExitStack) -> Batches:
-        paths = paths_of(self._request)
-        query = read_query(self._request.filter, paths, self._is_copied)
-        source, spool = self._source, None
-        if not self._is_copied and not (query and query.is_wide):
-            if not (source and begins_wide(source, self._program, self._group)):
-                if source and source.size is None:
-                    spool = Spool(source.pieces())
-                    files.callback(spool.close)
-                self._dump = Dump(spool.pieces) if spool else source.dump() if source else self.original.dump
-                try:
-                    yield from super().batches()
-                    return
-                except DumpError as error:
-                    if not is_wide(error):
-                        raise
-            query = read_query(self._request.filter, paths, True)
-        if query is None:
-            raise _unread(self._request, self._program)
-        if source:
-            self._original = spool.original() if spool else Original.of(source)
-            files.callback(self._original.close)
-        yield from self._by_copy(query)
-
-    @property
-    def original(self) -> Original:
-        """The documents of the dump, once they are known."""
-        assert self._original
-        return self._original
-
-    def _by_copy(self, query: Query) -> Batches:
-        if query.refusals:
-            raise query.refusals[0]
-        original = self.original
-        if self._index is not None:
-            query.indexes.append(self._index)
-        connection, levels = self._connected(query, original)
-        self._request = replace(self._request, filter=query.rewritten(levels))
-        try:
-            with connection, places(query, levels):
-                now(refuse_matches(connection, query.probes_at(levels), self._request))
-                for lines in self._read(connection):
-                    yield original.given(lines, self._is_bson, self._program, self._group)
-        except DumpError as error:
-            raise (original.fault(self._program, self._group) if error.fault else None) or error from None
-
-    def _connected(self, query: Query, original: Original) -> tuple[Connection, dict[str, int]]:
-        """A connection over a copy, with its codes: over the one that was kept, if it has all that the query needs."""
-        codes = Codes()
-        if self._source and self._copy is not None:
-            with kept_copy(self._source, self._copy) as (dump, codes):
-                known = codes.key
-                codes.settle(query)
-                if codes.key == known:
-                    return self._connect(dump), codes.levels
-        return connect_copy(original, query, codes, self._program, self._group, self._connect), codes.levels
-
-    def _connect(self, dump: Dump) -> Connection:
-        return Connection(dump, self._program, group=self._group, check=self._check)
-
-
-def prepare(path: File, copy: File, *, program: str = "bsonfind") -> list[str]:
-    """Keeps a copy of a dump for many questions, with a file that describes it beside it; gives the paths of which it has codes.
-
-    A `Session` takes it as `copy`. The copy is for this package alone; it must not be restored.
-    """
-    names = [name_of(copy), f"{name_of(copy)}{_ABOUT}"]
-    refuse_names(name_of(path), *names)
-    _refuse_other(names[1])
-    codes = Codes()
-    with Source(name_of_file(path), is_named=True) as source:
-        if source.is_archive:
-            source.dump()  # which refuses it
-        return _prepare(source, names, copy, codes, program)
-
-
-def _prepare(source: Source, names: list[str], copy: File, codes: Codes, program: str) -> list[str]:
-    with closing(Original.of(source)) as original:
-        damage = original.fault(program, None)
-        if damage:
-            raise damage
-        with Output(names[0]) as data, Output(names[1]) as about, temporary_file() as file:
-            write_copy(original, Query("{}"), codes, program, Group(), file)
-            file.seek(0)
-            while piece := file.read(_PIECE):
-                data.write(piece)
-            data.complete()
-            source.check()
-            data.put_in_place()
-            with Source(name_of_file(copy)) as made:
-                told = {"version": _VERSION, "dump": source.state, "copy": made.state, **asdict(codes)}
-            about.write(json.dumps(told).encode())
-            about.complete()
-            about.put_in_place()
-    return [word_of(it, level) for it, level in sorted(codes.levels.items())]
-
-
-def _refuse_other(name: str) -> None:
-    """Refuses a file that is there and describes no copy: it would be replaced."""
-    if not os.path.lexists(name):
-        return
-    try:
-        # What is longer than any description is not read.
-        about = json.loads(Path(name).read_bytes()) if os.path.isfile(name) and os.path.getsize(name) < _PIECE << 4 else {}
-    except (OSError, ValueError, RecursionError):
-        about = {}
-    if not (isinstance(about, dict) and {"dump", "copy", "levels"} <= about.keys()):
-        raise ArgumentError(f"{name} is there, and describes no copy: give the copy another name")
-
-
-@contextmanager
-def kept_copy(source: Source, copy: File) -> Iterator[tuple[Dump, Codes]]:
-    """A copy that was kept, with its codes. It must be of this dump as it is now, and stay as it is while it is read."""
-    name = name_of_file(copy)
-    try:
-        with open(f"{name}{_ABOUT}", encoding="utf-8") as file:
-            about = json.load(file)
-        is_known = about.get("version") == _VERSION
-    except (OSError, ValueError, RecursionError, AttributeError):
-        raise _another(name, source) from None
-    if not is_known:
-        raise DumpError(f"{name} is no copy of this version of bsonfind: make it again")
-    with Source(name, is_named=True) as kept:
-        states = [it and list(it) for it in (source.state, kept.state)]
-        if None in states or states != [about.get("dump"), about.get("copy")]:
-            raise _another(name, source)
-        try:
-            codes = Codes(dict(about["levels"]), dict(about["hidden"]))
-        except (KeyError, TypeError, ValueError):
-            raise _another(name, source) from None
-        yield kept.dump(), codes
-        kept.check()
-
-
-def _another(name: str, source: Source) -> DumpError:
-    return DumpError(f"{name} is no copy of {source.name} as it is now: prepare it again")
-
-
-def originals(source: Source, start: int, most: int) -> Iterator[tuple[Input, Original]]:
-    """The documents of a dump from a place on, in parts of at most so many bytes, each with its place."""
-    if source.is_plain and start == 0 and (source.size or 0) <= most:
-        yield Input(0, 0, None, None), Original.of(source)
-        source.check()
-        return
-    errors: list[Exception] = []
-    for offset, first, pieces in framing.inputs(up_to_error(source.pieces(), errors), most):
-        if offset < start:
-            for _ in pieces:
-                pass
-            continue
-        original = Original.of_pieces(pieces)
-        original.first, original.offset = first, offset
-        try:
-            yield Input(offset, first, None, None), original
-        finally:
-            original.close()
-    if errors:
-        raise errors[0]
-
-
-def compares_wide(request: Request) -> bool:
-    """Whether a request compares by doubles or decimal128."""
-    query = read_query(request.filter)
-    return query is not None and query.is_wide
-
-
-def try_request(request: Request, program: str, group: Group | None = None) -> None:
-    """Asks no documents, so that a refused request is raised."""
-    query = query_of(request, False, program)
-    levels: dict[str, int] = {}
-    if query:
-        query.settle(levels)
-        request = replace(request, filter=query.rewritten(levels))
-    with places(query, levels):
-        list(Lines(Dump(), request, program, group=group).batches())

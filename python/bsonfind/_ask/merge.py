@@ -7,33 +7,27 @@ another one to each part, and gives the results in the order of the parts. That 
 and that of an engine over many machines where the files, this package and the program are:
 `lambda ask, parts: client.gather(client.map(ask, parts))` for Dask.
 
-What is found goes from the parts to the whole as lines. So no document of a part may begin with a name such as "$oid", alone or
-inside another: its text is that of another value. `find_parts` looks for such names in all documents, and raises a `PartError`
-with the byte.
+What is found goes from the parts to the whole as the documents are in the dump, byte for byte.
 """
 
 from __future__ import annotations
 
 from concurrent.futures import ThreadPoolExecutor
+from contextlib import closing, contextmanager
 from functools import partial
 from typing import Any, Callable, Iterable, Iterator, Literal, NamedTuple, Sequence, TypeVar, overload
 
-from .._dumps.checking import checking, faults_of, finish_check, is_wide
+from .._dumps.checking import checking, faults_of, finish_check
+from .._dumps.files import is_packed
+from .._dumps.originals import Original
 from .._dumps.parts import Part, PartError
-from .._dumps.plain import plain_pieces
-from .._dumps.printing import PACKED, pack_lines
 from .._dumps.sources import Input
 from .._errors import ArgumentError, BsonfindError, DumpError, ProgramError
 from .._faults import Fault
 from .._numbers import seconds, whole
-from .._run.processes import Dump, Group, Run
-from . import steps
-from .connections import Connection
-from .copies import AnyLines, Original, compares_wide, try_request
+from .._run.processes import Dump, Group
 from .decoding import Decode, Dicts, Texts, decoder, refuse_bson, with_uuids
-from .lines import Lines, counted
-from .plans import now
-from .questions import Questions
+from .lines import Lines, try_request
 from .requests import Filter, Request, Sort
 from .values import Uuids
 
@@ -207,86 +201,35 @@ def _part_error(part: Part, error: BsonfindError | OSError) -> PartError:
 
 
 def _packed_answer(request: Request, program: str, group: Group, part: Part) -> bytes:
-    """The documents of a part that are found, as a dump. Those of a part with doubles or decimal128 are found by a copy."""
-    if not compares_wide(request):
-        try:
-            return _packed_lines(request, program, group, part)
-        except DumpError as error:
-            if not is_wide(error):
-                raise
-    original = Original.of_pieces(part.pieces())
-    original.first, original.offset = part.first, part.offset
-    try:
-        found = AnyLines(original, request, program, is_bson=True, group=group)
+    """The documents of a part that are found, as a dump."""
+    with _original(part, request.is_long) as original:
+        found = Lines(original, request, program, is_bson=True, group=group)
         return b"".join(document for batch in found.batches() for document in batch)
-    finally:
-        original.close()
+
+
+@contextmanager
+def _original(part: Part, by_session: bool) -> Iterator[Original]:
+    """The documents of a part. What is packed, or is asked by a session, is written to a file without a name."""
+    if by_session or is_packed(part.path):
+        with closing(Original.of_pieces(part.pieces())) as original:
+            yield original
+    else:
+        with part.opened() as file:
+            yield Original(file, False, part.offset, part.offset + part.length)
 
 
 def _joined_answer(packed: list[bytes], request: Request, program: str, group: Group) -> list[bytes]:
     """The lines of the answer over what the parts gave. A fault of that has no place in the dump."""
     try:
-        return _lines_over(packed, request, program, group)
+        return [line for batch in Lines(Dump(packed), request, program, group=group).batches() for line in batch]
     except DumpError as error:
         if not error.fault:
             raise
         raise DumpError(f"what the parts gave, joined, cannot be asked: {error.fault.kind}") from None
 
 
-def _lines_over(packed: list[bytes], request: Request, program: str, group: Group) -> list[bytes]:
-    if not compares_wide(request):
-        try:
-            return [line for batch in Lines(Dump(pieces=packed), request, program, group=group).batches() for line in batch]
-        except DumpError as error:
-            if not is_wide(error):
-                raise
-    original = Original.of_pieces(packed)
-    try:
-        return [line for batch in AnyLines(original, request, program, is_known=True, group=group).batches() for line in batch]
-    finally:
-        original.close()
-
-
-def _packed_lines(request: Request, program: str, group: Group, part: Part) -> bytes:
-    dump = Dump(pieces=plain_pieces(part))
-    if request.is_long:
-        batches = Lines(dump, request, program, group=group).batches()
-        texts = (b"".join(line + b"\n" for line in batch) for batch in batches)
-        return pack_lines(texts, program, group)
-    with Run.over(dump, program, "find", request.words(), group=group) as found:
-        with Run([program, "pack", "-"], stdin=found.stdout, group=group) as packed:
-            found.stdout.close()
-            data = packed.stdout.read()
-            _finish(found, packed)
-            return data
-
-
-def _finish(found: Run, packed: Run) -> None:
-    """Raises what went wrong with `find` or, where that could write no more, with the `pack` that read it."""
-    try:
-        counted(found)
-    except ProgramError as error:
-        if str(error) == "cannot write":
-            packed.finish(PACKED)
-        raise
-    packed.finish(PACKED)
-
-
 def _count(request: Request, program: str, group: Group, part: Part) -> int:
-    if not compares_wide(request):
-        try:
-            with Connection(Dump(pieces=part.pieces()), program, group=group) as connection:
-                return connection.do(steps.count(request))
-        except DumpError as error:
-            if not is_wide(error):
-                raise
-    original = Original.of_pieces(part.pieces())
-    original.first, original.offset = part.first, part.offset
-    try:
-        with Questions(original, program, group=group) as questions:
-            return now(questions.ask(steps.count, request))
-    finally:
-        original.close()
+    return Lines(Dump(part.pieces()), request, program, group=group).count()
 
 
 def _check(program: str, group: Group, part: Part) -> Check:

@@ -9,17 +9,20 @@ from functools import partial
 from typing import Any, Callable, ContextManager, TypeVar
 
 from .._dumps.checking import begins_wide, is_wide
+from .._dumps.originals import Original, Spool
 from .._dumps.sources import Source
 from .._errors import CancelledError, DumpError, SessionEndedError
 from .._names import File, name_of_file
 from .._numbers import seconds
 from .._run.processes import Dump, Group, check_owner
 from . import steps
-from .codes import Query, refused
+from .codes import refused
 from .connections import Connection
-from .copies import Codes, Original, Spool, connect_copy, kept_copy, places, query_of, refuse_matches
+from .copies import Codes, connect_copy, places, query_of, refuse_matches
 from .decoding import Decode, Texts, decoder
+from .kept import kept_copy
 from .plans import Plan, Work
+from .queries import Query
 from .replies import documents_in
 from .requests import Request
 from .steps import Reading, Steps, Use
@@ -62,18 +65,21 @@ class Questions:
 
     def __init__(
         self,
-        path: File | Original,
+        path: File | Source | Original,
         program: str,
         timeout: float | None = None,
         copy: File | None = None,
         group: Group | None = None,
     ) -> None:
-        """Opens a dump, of which a copy by `prepare` may be given. A dump whose original is given is known to need a copy."""
+        """Opens a dump, of which a copy by `prepare` may be given. One that is open stays so."""
         self._program, self._owner, self._timeout = program, os.getpid(), seconds(timeout)
         self._group, self._is_own_group = group or Group(), group is None
         self._lock = threading.RLock()
-        self._source = None if isinstance(path, Original) else Source(name_of_file(path), is_named=True)
+        is_open = isinstance(path, (Source, Original))
+        self._source = path if isinstance(path, Source) else None if isinstance(path, Original) else Source(name_of_file(path), is_named=True)
         self._original = path if isinstance(path, Original) else None
+        # What is closed in the end.
+        self._files: list[Source | Original] = [] if is_open or not self._source else [self._source]
         # The copies, that which was used last at the end.
         self._copies: dict[frozenset[object], Connection] = {}
         self._indexes: list[tuple[str, bool]] = []
@@ -93,18 +99,24 @@ class Questions:
             with kept_copy(source, copy) as (dump, self._codes):
                 self._copies[self._codes.key] = self._connect(dump)
             return
-        if source is None or begins_wide(source, self._program, self._group):
+        if source and begins_wide(source, self._program, self._group):
             self._connection_by(Query("{}"), self._codes)
             return
-        spool = Spool(source.pieces()) if source.size is None else None
+        spool = Spool(source.pieces()) if source and source.size is None else None
         try:
-            self._own = self._connect(Dump(spool.pieces) if spool else source.dump())
-            self._original = spool.original() if spool else None
+            self._own = self._connect(Dump(spool.pieces) if spool else source.dump() if source else self.original.dump)
+            self._spooled(spool)
         except DumpError as error:
             if not is_wide(error):
                 raise
-            self._original = spool.original() if spool else None
+            self._spooled(spool)
             self._connection_by(Query("{}"), self._codes)
+
+    def _spooled(self, spool: Spool | None) -> None:
+        """Keeps the documents of what can be read only once."""
+        if spool:
+            self._original = spool.original()
+            self._files.append(self._original)
 
     def in_time(self) -> ContextManager[None]:
         """Has all end where a question takes longer than its seconds."""
@@ -131,6 +143,7 @@ class Questions:
             if self._original is None:
                 assert self._source
                 self._original = Original.of(self._source)
+                self._files.append(self._original)
             return self._original
 
     def ask(self, steps: Callable[..., Steps[T]], request: Request, *more: Any) -> Plan[T]:
@@ -222,10 +235,8 @@ class Questions:
             self._group.end(SessionEndedError("the session was closed"))
         for connection in self._connections:
             connection.close()
-        if self._source:
-            if self._original:
-                self._original.close()
-            self._source.close()
+        for file in reversed(self._files):
+            file.close()
 
     def __enter__(self) -> Questions:
         return self
@@ -259,12 +270,12 @@ class Answering:
             self._asked = asked
         return self._asked
 
-    def read_on(self, questions: Questions) -> Plan[None]:
-        """Reads until there are documents that were not given, or none follows."""
+    def read_on(self, questions: Questions, most: int | None = None) -> Plan[None]:
+        """Reads until there are documents that were not given, this many at most, or none follows."""
         asked = yield from self.open(questions)
         while not self.reading.held.documents.left and not self.is_at_end:
             asked.connection.check_open()
-            yield from asked.ask(self.reading.read_on())
+            yield from asked.ask(self.reading.read_on(most))
 
     def token(self, questions: Questions) -> Plan[str | None]:
         """The token that leads on to what follows the documents that were given; None if none was."""

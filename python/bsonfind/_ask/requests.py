@@ -15,8 +15,10 @@ from .values import Uuids, extended, uuids_of
 Filter = Mapping[str, Any]
 Sort = Union[Mapping[str, int], Sequence["tuple[str, int]"]]
 
-# Linux takes arguments below 131,072 bytes.
-LONGEST_ARGUMENT = 131_000
+# Linux takes arguments of fewer than 131,072 bytes.
+LONGEST_ARGUMENT = 131_071
+# A longer text is an argument after its option.
+_LONGEST_BESIDE = 1000
 
 
 def _named(value: Any) -> Any:
@@ -104,13 +106,18 @@ class Request:
 
     @property
     def is_long(self) -> bool:
-        """Whether a command line cannot hold it, so that it goes to `serve`."""
-        return max(len(self.filter), len(self.sort)) > LONGEST_ARGUMENT
+        """Whether no argument can have it, so that it goes to `serve`."""
+        return max(len(self.filter.encode()), len(self.sort.encode())) > LONGEST_ARGUMENT
 
     def words(self) -> list[str]:
         """The options of `find`."""
-        return [f"--query={self.filter}", f"--sort={self.sort}", f"--skip={self.skip}", f"--limit={self.limit}"]
+        return [*_option("query", self.filter), *_option("sort", self.sort), f"--skip={self.skip}", f"--limit={self.limit}"]
 
     def fields(self) -> list[tuple[str, str]]:
         """The further fields of a command, with the texts of their values."""
         return [("sort", self.sort), ("skip", str(self.skip)), ("limit", str(self.limit))]
+
+
+def _option(name: str, text: str) -> list[str]:
+    """An option with a text, which no program takes for another option."""
+    return [f"--{name}={text}"] if len(text) < _LONGEST_BESIDE else [f"--{name}", text]

@@ -7,26 +7,21 @@ from concurrent.futures import ThreadPoolExecutor, as_completed
 from dataclasses import replace
 from typing import Callable, Iterable
 
-from .._dumps.archive import Archive
+from .._dumps.archive import Archive, Listed
 from .._dumps.archive_frames import Namespace
 from .._dumps.checking import Checking
 from .._dumps.files import name_in
 from .._dumps.sources import Source
 from .._errors import ArgumentError, BsonfindError, DumpError
-from .._faults import Fault, NO_DAMAGE
 from .._names import File, name_of
 from .._numbers import whole
 from .._run.processes import Group, processors
 from .._run.wide import wide_program
 from .backups import Dump, dumps_of, is_inside, namespace_of, place_of, read_log, text_lines
-from .damage import details_of, rest_after
 from .metadata import fault_of_listed, fault_of_metadata
-from .reports import Audit, Report
+from .reports import MOST_FAULTS, Audit, Noting, Report
 from .split import split
 from .watching import Unwatched, Watch
-
-# How many faults of a file are reported one by one.
-MOST_FAULTS = 10
 
 
 def audit(
@@ -56,13 +51,17 @@ def audit_dumps(
     program: str = "bsonfind",
     take: Callable[[Report], None] = lambda _: None,
     watch: Callable[[int, int], Watch] = lambda files, size: Unwatched(),
+    take_list: Callable[[str, list[Listed]], None] = lambda name, listed: None,
 ) -> Audit:
-    """Checks dumps, and passes on the report of each as soon as it is there. What prints how far it is gets how many files and bytes."""
+    """Checks dumps, and passes on the report of each as soon as it is there, and the list of its archive.
+
+    What prints how far it is gets how many files and bytes.
+    """
     log = read_log(text_lines(expect)) if expect is not None else None
     wide_program(program)
     sizes = {it.file: it.size or 0 for it in dumps}
     with watch(len(dumps), sum(sizes.values())) as progress:
-        reports = _check_all(dumps, _Checker(max_faults, program, take, progress), jobs or processors())
+        reports = _check_all(dumps, _Checker(max_faults, program, take, take_list, progress), jobs or processors())
     missing: dict[str, int] = {}
     if log:
         counts = {**log.documents, **({} if log.oplog is None else {"oplog": log.oplog})}
@@ -107,37 +106,46 @@ def _check_all(dumps: list[Dump], checker: _Checker, jobs: int) -> list[Report]:
 class _Checker:
     """The check of one file after the other; threads share it."""
 
-    def __init__(self, max_faults: int, program: str, take: Callable[[Report], None], progress: Watch) -> None:
+    def __init__(
+        self,
+        max_faults: int,
+        program: str,
+        take: Callable[[Report], None],
+        take_list: Callable[[str, list[Listed]], None],
+        progress: Watch,
+    ) -> None:
         self.group = Group()
         self._max_faults, self._program = max_faults, program
-        self._take, self._progress = take, progress
+        self._take, self._take_list, self._progress = take, take_list, progress
 
     def check(self, names: list[Dump]) -> dict[int, list[Report]]:
         """Checks a file, or each collection of an archive; the reports are those of each of its names."""
         first = names[0]
-        found, is_archive = self._check_file(first)
+        found, listed, is_archive = self._check_file(first)
         reports: dict[int, list[Report]] = {}
         for dump in names:
             these = [replace(it, name=dump.name + it.name[len(first.name) :]) for it in found]
             reports[id(dump)] = these
             for it in these:
                 self._name(it, dump, is_archive)
+            self._take_list(dump.name, listed)
             self._progress.add_file()
         return reports
 
-    def _check_file(self, dump: Dump) -> tuple[list[Report], bool]:
-        """The reports of a file, or of each collection of an archive, and whether it is one."""
+    def _check_file(self, dump: Dump) -> tuple[list[Report], list[Listed], bool]:
+        """The reports of a file, or of each collection of an archive, the list of an archive, and whether it is one."""
         report, is_archive = Report(dump.name, error=dump.error, is_fault=dump.is_fault), False
+        listed: list[Listed] = []
         if not dump.error:
             try:
                 with Source(dump.name) as source, self._progress.over(source):
-                    is_archive = source.is_archive
+                    listed, is_archive = source.listed, source.is_archive
                     if is_archive:
-                        return self._check_archive(source), True
+                        return self._check_archive(source, listed), listed, True
                     self._check_documents(report, source)
             except (BsonfindError, OSError) as error:
                 self._note(report, error)
-        return [report], is_archive
+        return [report], listed, is_archive
 
     def _name(self, report: Report, dump: Dump, is_archive: bool) -> None:
         """Notes what a report has by the name of its file, and passes it on."""
@@ -154,9 +162,10 @@ class _Checker:
         report.error = (error.strerror if isinstance(error, OSError) else None) or str(error)
         report.is_fault = isinstance(error, DumpError) and error.is_finding
 
-    def _check_archive(self, source: Source) -> list[Report]:
+    def _check_archive(self, source: Source, listed: list[Listed]) -> list[Report]:
         """The reports of the collections of an archive, which are checked side by side as their documents come."""
         archive = Archive(source.raw())
+        listed += archive.listed
         reports: dict[Namespace, Report] = {}
 
         def report_of(namespace: Namespace) -> Report:
@@ -187,27 +196,16 @@ class _Checker:
         # After a refusal that is no fault of the archive, ends were not looked for.
         for namespace in archive.unended() if not others or others[0].is_fault else ():
             note_damage(namespace, "no end")
-        for listed in archive.listed:
-            if fault := fault_of_listed(listed):
-                report_of(listed.buckets if listed.buckets in reports else listed.namespace).metadata = fault
+        for it in listed:
+            if fault := fault_of_listed(it):
+                report_of(it.buckets if it.buckets in reports else it.namespace).metadata = fault
         return [*(reports[namespace] for namespace in sorted(reports)), *others]
 
     def _check_documents(self, report: Report, source: Source) -> None:
-        harmless: dict[str, Fault] = {}
-        checking, last = Checking(self._program, self.group), None
+        checking, noting = Checking(self._program, self.group), Noting(report, self._max_faults)
         try:
             for fault in checking.faults(source):
-                report.kinds[fault.kind] += 1
-                if fault.kind in NO_DAMAGE:
-                    harmless.setdefault(fault.kind, fault)
-                else:
-                    last = fault
-                    if len(report.faults) < self._max_faults:
-                        report.faults.append(fault)
+                noting.add(fault)
         finally:
-            report.documents = checking.documents
-            report.faults.extend(harmless.values())
-        if last and source.size is not None and not source.is_packed:
-            report.rest = rest_after(last, source.size)
-        damage = [it for it in report.faults if it.kind not in NO_DAMAGE]
-        report.details = details_of(source, damage, self._program, self.group)
+            noting.end(checking.documents, checking.bytes)
+        noting.look(source, self._program, self.group)

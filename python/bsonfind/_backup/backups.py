@@ -9,14 +9,14 @@ from base64 import urlsafe_b64encode
 from dataclasses import dataclass
 from hashlib import sha1
 from pathlib import PurePath
-from typing import Iterable, Iterator, NamedTuple
+from typing import Any, Iterable, Iterator, NamedTuple
 from urllib.parse import quote, unquote
 
 from .._dumps.archive_frames import Namespace
 from .._dumps.files import file_of, is_whole_archive, member_of
 from .._errors import FileError
 from .._names import File, name_of
-from .metadata import OPLOG, is_at_top, is_oplog, read_metadata, read_metadata_file
+from .metadata import OPLOG, is_at_top, is_oplog, kind_of, read_metadata, read_metadata_file
 
 _ENDING = re.compile(r"\.bson(\.gz)?$")
 _METADATA = re.compile(r"\.metadata\.json(\.gz)?$")
@@ -153,7 +153,7 @@ def _file_among(entry: os.DirEntry[str], directory: str, stems: set[str]) -> Dum
     if _HALF.search(entry.name):
         return Dump(entry.path, error="not whole: unpack left it so", is_fault=True)
     if _METADATA.search(entry.name) and _METADATA.sub("", entry.name) not in stems:
-        stem = _stem_wanted(entry.path)
+        stem = stem_wanted(entry.path, read_metadata_file(entry.path)[0])
         if stem is not None and stem not in stems:
             return Dump(os.path.join(directory, f"{stem}.bson"), error=f"missing: only {entry.name} is there", is_fault=True)
     elif is_whole_archive(entry.path):
@@ -200,8 +200,7 @@ def namespace_of(name: str) -> str:
     if member:
         return str(member.namespace)
     metadata, _ = read_metadata(name)
-    collection = (metadata or {}).get("collectionName")
-    return f"{os.path.basename(directory)}.{collection if isinstance(collection, str) else unquote(stem)}"
+    return f"{os.path.basename(directory)}.{collection_of(name, metadata)}"
 
 
 def place_of(name: str) -> str | None:
@@ -230,21 +229,32 @@ def stem_of(namespace: Namespace) -> str:
     return escaped if is_at_top(namespace) else os.path.join(os.fsdecode(namespace.database.encode()), escaped)
 
 
-def _stem_wanted(path: str) -> str | None:
+def stem_wanted(path: str, metadata: dict[str, Any] | None) -> str | None:
     """The name without an ending of the dump whose metadata is in this file, None of a view, which has none.
 
     That of a time series is the dump of its buckets.
     """
-    found, _ = read_metadata_file(path)
-    stem, metadata = _METADATA.sub("", os.path.basename(path)), found or {}
-    kind, options = metadata.get("type"), metadata.get("options")
-    keys = {*options} if isinstance(options, dict) else set()
-    if kind == "view" or "viewOn" in keys:
+    stem, kind = _METADATA.sub("", os.path.basename(path)), kind_of(metadata or {})
+    if kind == "view":
         return None
-    if (kind != "timeseries" and "timeseries" not in keys) or stem.startswith("system.buckets."):
+    if kind != "timeseries" or stem.startswith("system.buckets."):
         return stem
-    collection = metadata.get("collectionName")
-    return stem_of(Namespace("", f"system.buckets.{collection if isinstance(collection, str) else unquote(stem)}"))
+    return stem_of(Namespace("", f"system.buckets.{collection_of(path, metadata)}"))
+
+
+def collection_of(path: str, metadata: dict[str, Any] | None) -> str:
+    """The name of the collection of a dump or of metadata, by the metadata or else by the name of the file."""
+    collection = (metadata or {}).get("collectionName")
+    return collection if isinstance(collection, str) else unquote(_ENDING.sub("", _METADATA.sub("", os.path.basename(path))))
+
+
+def metadata_below(directory: str) -> Iterator[tuple[str, dict[str, Any]]]:
+    """The files of metadata below a directory that can be read, in the order of their names, with what they say."""
+    for inner, _, names in os.walk(directory):
+        for name in sorted(it for it in names if _METADATA.search(it)):
+            metadata, _ = read_metadata_file(os.path.join(inner, name))
+            if metadata is not None:
+                yield os.path.join(inner, name), metadata
 
 
 def stem_of_file(name: str) -> str:

@@ -64,6 +64,15 @@ def fault_of_listed(listed: Listed) -> str | None:
     return None if isinstance(metadata, dict) else "not a document"
 
 
+def kind_of(metadata: dict[str, Any]) -> str:
+    """What metadata is of: "view", "timeseries", "capped" or "collection". An old mongodump says it by the options alone."""
+    kind, options = metadata.get("type"), metadata.get("options")
+    keys = options if isinstance(options, dict) else {}
+    if kind == "view" or "viewOn" in keys:
+        return "view"
+    return "timeseries" if kind == "timeseries" or "timeseries" in keys else "capped" if keys.get("capped") else "collection"
+
+
 def metadata_of(name: str) -> bytes | None:
     """The text of the metadata of a dump, None if there is none or it cannot be read."""
     metadata, _ = read_metadata(name)

@@ -5,15 +5,14 @@ from __future__ import annotations
 from collections import deque
 from typing import Iterator, NamedTuple, Sequence
 
-from .._ask.copies import AnyLines, compares_wide, originals, try_request
-from .._ask.lines import counted
+from .._ask.lines import counted, try_request
 from .._ask.requests import Request
-from .._dumps.checking import is_wide
-from .._dumps.printing import Batches, lines_of
+from .._dumps.printing import lines_of
 from .._dumps.sources import Input, Source
 from .._errors import BsonfindError, DumpError
 from .._faults import Fault
 from .._run.processes import Group
+from .._run.wide import wide_program
 from .backups import Dump
 
 # What one run holds in memory of a larger dump.
@@ -31,12 +30,11 @@ class Found(NamedTuple):
 def query_dumps(dumps: Sequence[Dump], request: Request, jobs: int, program: str) -> Iterator[Found]:
     """The documents of dumps that match, in the order of the dumps; this many are asked at once. A refused request is raised."""
     try_request(request, program)
-    is_copied = compares_wide(request)
     group = Group()
     ahead: deque[Iterator[Found]] = deque()
     try:
         for dump in dumps:
-            answer = _answer(dump, request, program, group, is_copied)
+            answer = _answer(dump, request, program, group)
             ahead.append(answer)
             next(answer)  # starts the first run, whose answer waits until it is read
             if len(ahead) >= jobs:
@@ -47,17 +45,16 @@ def query_dumps(dumps: Sequence[Dump], request: Request, jobs: int, program: str
         group.end()
 
 
-def _answer(dump: Dump, request: Request, program: str, group: Group, is_copied: bool) -> Iterator[Found]:
+def _answer(dump: Dump, request: Request, program: str, group: Group) -> Iterator[Found]:
     """The documents of a dump, after one thing that is empty, which is given when its first run is started."""
     name, is_started = dump.name, False
-    # Where the parts begin that are asked by way of copies.
-    copied_from = 0 if is_copied else None
+    words = [wide_program(program, group), "find", "-", *request.words()]
     try:
         if dump.error:
             raise DumpError(dump.error)
         with Source(name) as source:
-            for part in source.inputs(MOST_HELD) if copied_from is None else ():
-                with part.run([program, "find", "-", *request.words()], group=group) as run:
+            for part in source.inputs(MOST_HELD):
+                with part.run(words, group=group) as run:
                     if not is_started:
                         is_started = True
                         yield Found(name, [])
@@ -67,17 +64,7 @@ def _answer(dump: Dump, request: Request, program: str, group: Group, is_copied:
                     try:
                         counted(run)
                     except DumpError as error:
-                        if not is_wide(error) or source.size is None:
-                            raise moved(error, part) from None
-                        copied_from = part.offset
-                        break
-            if copied_from is not None:
-                if not is_started:
-                    is_started = True
-                    yield Found(name, [])
-                for lines in _by_copies(source, copied_from, request, program, group):
-                    source.check()
-                    yield Found(name, lines)
+                        raise moved(error, part) from None
     except (BsonfindError, OSError) as error:
         if not is_started:
             yield Found(name, [])
@@ -85,15 +72,6 @@ def _answer(dump: Dump, request: Request, program: str, group: Group, is_copied:
         return
     if not is_started:
         yield Found(name, [])
-
-
-def _by_copies(source: Source, start: int, request: Request, program: str, group: Group) -> Batches:
-    """The lines of the documents from a place on, some of which hold doubles or decimal128, in parts that are copied."""
-    for part, original in originals(source, start, MOST_HELD):
-        try:
-            yield from AnyLines(original, request, program, is_known=True, group=group).batches()
-        except DumpError as error:
-            raise moved(error, part) from None
 
 
 def moved(error: DumpError, part: Input) -> DumpError:

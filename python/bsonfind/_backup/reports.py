@@ -7,9 +7,13 @@ from collections import Counter
 from dataclasses import dataclass, field
 from typing import Any, Iterator, NamedTuple
 
+from .._dumps.sources import Source
 from .._faults import Fault, NO_DAMAGE
-from .damage import Detail
+from .._run.processes import Group
+from .damage import Detail, details_of, is_of_a_length, rest_after
 
+# How many faults of a file are reported one by one.
+MOST_FAULTS = 10
 # What is between a database and the name of a time series in the name of the collection of its documents.
 _BUCKETS = ".system.buckets."
 
@@ -30,6 +34,9 @@ class Report:
     details: dict[int, Detail] = field(default_factory=dict)
     # How many bytes at the end are not known to be a document. They count as one, with a fault.
     rest: int = 0
+    # How many documents have a length that is known, and how many bytes these have, unpacked.
+    whole: int = 0
+    bytes: int = 0
     error: str | None = None
     metadata: str | None = None
     # Whether the error is a fault of the backup: a file of gzip that is truncated or damaged, or metadata without its dump.
@@ -111,6 +118,39 @@ class Report:
             "metadata": self.metadata,
             "expected": self.expected,
         }
+
+
+class Noting:
+    """The faults of a file, which are noted in its report as they are found: this many of those that are damage one by one."""
+
+    def __init__(self, report: Report, most: int) -> None:
+        self._report, self._most = report, most
+        self._harmless: dict[str, Fault] = {}
+        self._last: Fault | None = None
+
+    def add(self, fault: Fault) -> None:
+        """Notes the first fault of a document."""
+        self._report.kinds[fault.kind] += 1
+        if fault.kind in NO_DAMAGE:
+            self._harmless.setdefault(fault.kind, fault)
+        else:
+            self._last = fault
+            if len(self._report.faults) < self._most:
+                self._report.faults.append(fault)
+
+    def end(self, documents: int, size: int = 0) -> None:
+        """Notes how many documents there were, and how many bytes they have, unpacked."""
+        is_cut = self._last is not None and is_of_a_length(self._last)
+        self._report.documents, self._report.whole = documents, documents - is_cut
+        self._report.bytes = self._last.offset if self._last and is_cut else size
+        self._report.faults.extend(self._harmless.values())
+
+    def look(self, source: Source, program: str, group: Group) -> None:
+        """Notes what can be read of the documents with these faults, of a file that is read as it is."""
+        if self._last and source.size is not None and not source.is_packed:
+            self._report.rest = rest_after(self._last, source.size)
+        damage = [it for it in self._report.faults if it.kind not in NO_DAMAGE]
+        self._report.details = details_of(source, damage, program, group)
 
 
 class Audit(NamedTuple):

@@ -5,13 +5,14 @@ from __future__ import annotations
 import os
 from collections import deque
 from contextlib import ExitStack, nullcontext
-from typing import Callable, ContextManager, NamedTuple
+from typing import Callable, ContextManager, Iterator, NamedTuple, Protocol
 
 from .._dumps.outputs import Output, refuse_names
 from .._dumps.sources import Source
 from .._errors import ArgumentError, DumpError
+from .._faults import Fault
 from .._names import File, name_of
-from .._run.processes import Run, processors
+from .._run.processes import Group, Run, processors
 from .._run.wide import wide_program
 from .beginnings import Beginnings, Check
 from .window import Window
@@ -84,7 +85,7 @@ def salvage(
             wide_program(program)
             outputs = [files.enter_context(Output(name, source.mode)) for name in names]
             files.enter_context(progress(source))
-            done = Salvaging(source, outputs[0], outputs[1], program, say or (lambda _: None)).copy()
+            done = Salvaging(source.pieces(), outputs[0], outputs[1], program, say or (lambda _: None)).copy()
         except DumpError as error:
             raise DumpError(f"{os.fsdecode(path)}: {error}", error.fault) from error
         for output in outputs:
@@ -96,19 +97,37 @@ def salvage(
     return done
 
 
+class Sink(Protocol):
+    """What takes documents, one after the other."""
+
+    def write(self, data: bytes | memoryview) -> object:
+        """Takes some documents."""
+
+
 class Salvaging:
     """The copying of the documents of a stream to one of two files, by whether they have a fault."""
 
-    def __init__(self, source: Source, good: Output, bad: Output, program: str, say: Callable[[str], None]) -> None:
-        self._window = Window(source.pieces())
+    def __init__(
+        self,
+        pieces: Iterator[bytes],
+        good: Sink,
+        bad: Sink,
+        program: str,
+        say: Callable[[str], None],
+        note: Callable[[Fault], None] = lambda _: None,
+        group: Group | None = None,
+        most: int | None = None,
+    ) -> None:
+        """What is left out is said, and the fault of each bad document is noted. One run checks this many bytes at most."""
+        self._window = Window(pieces)
         self._good_file, self._bad_file = good, bad
-        self._check, self._say = Check(program), say
+        self._check, self._say, self._note = Check(program, group), say, note
         self._beginnings = Beginnings(self._window, self._check, say)
         self._good = self._bad = 0
         self._left_out: list[LeftOut] = []
         # Documents that are being checked, how many runs do so at most, and the bytes that the next one checks.
         self._ahead: deque[_Batch] = deque()
-        self._most_ahead, self._size = min(processors(), _MOST_AHEAD), _FIRST
+        self._most_ahead, self._size, self._most = min(processors(), _MOST_AHEAD), _FIRST, most or _MOST
 
     def copy(self) -> Salvaged:
         """Copies all documents whose length is known."""
@@ -134,7 +153,7 @@ class Salvaging:
 
     def _check_ahead(self, at: int) -> bool:
         """Starts runs over the documents from there on, one for each processor; False where the first length is wrong."""
-        while len(self._ahead) < self._most_ahead and sum(len(it.data) for it in self._ahead) < _MOST * _MOST_AHEAD:
+        while len(self._ahead) < self._most_ahead and sum(len(it.data) for it in self._ahead) < self._most * _MOST_AHEAD:
             start = self._ahead[-1].ends[-1] if self._ahead else at
             ends = self._window.document_ends(start, self._size, _MOST_DOCUMENTS)
             if not ends:
@@ -142,7 +161,7 @@ class Salvaging:
             data = self._window.part(start, ends[-1])
             self._ahead.append(_Batch(start, ends, data, self._check.run([data])))
             self._window.drop(ends[-1])
-            self._size = min(2 * self._size, _MOST)
+            self._size = min(2 * self._size, self._most)
         return bool(self._ahead)
 
     def _forget_ahead(self) -> None:
@@ -154,7 +173,7 @@ class Salvaging:
     def _copy_documents(self, batch: _Batch) -> int:
         """Copies documents, and gives the place after them, or that of documents which a wrong length skips."""
         start, ends, data = batch.start, batch.ends, memoryview(batch.data)
-        at, copied = start, 0
+        at, copied, before = start, 0, self._good + self._bad + len(self._left_out)
         faults = self._check.faults([batch.data], len(ends), batch.run)
         if faults:
             # What is in and after a bad document is looked at.
@@ -168,6 +187,7 @@ class Salvaging:
             if inside is not None:
                 return self._leave_out(LeftOut(begin, inside, True, True))
             self._bad_file.write(data[begin - start : end - start])
+            self._note(fault.moved(before, start))
             self._bad += 1
             at, copied = end, number + 1
         self._good_file.write(data[at - start :])
@@ -179,6 +199,7 @@ class Salvaging:
         self._left_out.append(left_out)
         self._say(str(left_out))
         return left_out.end
+
 
 class _Batch(NamedTuple):
     """Documents with their places and their bytes, and the run that checks them."""

@@ -11,7 +11,7 @@ from .console import NAME, print_text
 # As `typing.TYPE_CHECKING`, without `typing`, which takes long to import.
 TYPE_CHECKING = False
 if TYPE_CHECKING:
-    from typing import Callable, Sequence
+    from typing import Any, Callable, Sequence
 
 # The greatest number that an option takes, as the program has it.
 MOST = 2_147_483_647
@@ -21,6 +21,9 @@ _DIGITS = re.compile(r"\+?[0-9]+", re.ASCII)
 _EPILOG = "COMMAND --help explains a command and its status. ARCHIVE::db.collection names a collection of an archive as a FILE."
 # The status of each command that has the one of the program: 1 for all that failed.
 _AS_THE_PROGRAM = "The status is 0 if all is {}, and 1 if anything failed, such as for a fault of the dump."
+
+# The status of the commands that pass what is faulty.
+_OF_READING = "The status is 0 if all was read, 1 if a document has a fault, which is reported and left out, and else 2."
 
 
 class Refused(Exception):
@@ -32,6 +35,14 @@ class _Parser(argparse.ArgumentParser):
 
     def __init__(self, **how: object) -> None:
         super().__init__(allow_abbrev=False, **how)  # type: ignore[arg-type]
+
+    def parse_known_args(self, args: Any = None, namespace: Any = None) -> Any:
+        """Takes names of files after options too, which else are not known."""
+        known, others = super().parse_known_args(args, namespace)
+        if hasattr(known, "files"):
+            known.files = [*known.files, *(it for it in others if it == "-" or not it.startswith("-"))]
+            others = [it for it in others if it != "-" and it.startswith("-")]
+        return known, others
 
     def print_help(self, file: object = None) -> None:
         """Prints the help on standard output."""
@@ -109,7 +120,7 @@ def _add_find(command: argparse.ArgumentParser) -> None:
     command.epilog = f"{_AS_THE_PROGRAM.format('printed')} Unless it is 0, delete what it wrote."
     command.add_argument("file", metavar="FILE", help="a dump, one by mongodump --gzip, or - for standard input")
     for name, default, metavar, text in (
-        ("query", "{}", "Q", "a query, in which numbers may have fractions"),
+        ("query", "{}", "Q", "a query, as bsonwide find takes it"),
         ("sort", "{}", "S", "the fields by which documents are sorted"),
         ("index", None, "PATH", "find documents by an index on this path"),
         ("after", None, "TOKEN", "resume after the documents that were printed with this token; one of --bson is for --bson"),
@@ -122,7 +133,6 @@ def _add_find(command: argparse.ArgumentParser) -> None:
     ):
         command.add_argument(f"--{name}", default=number, type=_number(0), metavar="N", help=text)
     command.add_argument("--bson", action="store_true", help="print the documents as they are, in BSON")
-    command.add_argument("--copy", metavar="COPY", help="ask by this copy, which prepare made")
 
 
 def _add_prepare(command: argparse.ArgumentParser) -> None:
@@ -177,6 +187,43 @@ def _add_query(command: argparse.ArgumentParser) -> None:
     command.add_argument("--jobs", type=_number(1), metavar="N", help="ask this many files at once")
 
 
+def _add_count(command: argparse.ArgumentParser) -> None:
+    command.epilog = _OF_READING
+    _add_dumps(command)
+    command.add_argument("--query", type=_text, metavar="Q", help="count the documents that match this query")
+    command.add_argument("--by", type=_text, metavar="PATH", help="count the documents of each value of this field")
+    command.add_argument("--sum", type=_text, metavar="PATH", help="also add the numbers of this field, exactly")
+    command.add_argument("--json", action="store_true", help="print a line of JSON for each row")
+
+
+def _add_schema(command: argparse.ArgumentParser) -> None:
+    command.epilog = _OF_READING
+    _add_dumps(command)
+    command.add_argument("--sample", type=_number(1), metavar="N", help="look at this many documents, chosen at random")
+    command.add_argument("--json", action="store_true", help="print a line of JSON for each row")
+
+
+def _add_info(command: argparse.ArgumentParser) -> None:
+    command.epilog = "The status is that of audit: 0 if all is good, 1 if something is faulty, cut or missing, 2 if another file was not read."
+    _add_files(command)
+    command.add_argument("--json", action="store_true", help="print a line of JSON for each collection")
+    command.add_argument("--jobs", type=_number(1), metavar="N", help="check this many files at once")
+
+
+def _add_grep(command: argparse.ArgumentParser) -> None:
+    command.epilog = "The status is 0 if all was searched, also if nothing is found, 1 if something is faulty, 2 if a file was not read."
+    command.usage = "%(prog)s [options] TEXT FILE.. | --regex R FILE.."
+    command.add_argument("files", nargs="*", metavar="TEXT FILE", help="a text, an id or a UUID, unless --regex is given; then dumps, archives, directories of these, - for standard input")
+    command.add_argument("--list", metavar="F", help="also the files whose names are the lines of F")
+    command.add_argument("--regex", type=_text, metavar="R", help="a regular expression of Python in place of the text")
+    command.add_argument("-i", "--ignore-case", action="store_true", help="upper and lower case are the same")
+    command.add_argument("--timeout", type=_number(1), default=5, metavar="S", help="the seconds that --regex may take on one text")
+    kinds = command.add_mutually_exclusive_group()
+    kinds.add_argument("--count", action="store_true", help="print how many documents and fields of each file have it")
+    kinds.add_argument("--json", action="store_true", help="print a line of JSON for each field")
+    command.add_argument("--jobs", type=_number(1), metavar="N", help="search by this many processes at once")
+
+
 def _add_ids(command: argparse.ArgumentParser) -> None:
     command.epilog = "The status is 0 if each id has a document, 1 if one has none, and else 2."
     command.add_argument("file", metavar="FILE", help="a dump of any size, or one by mongodump --gzip")
@@ -190,11 +237,15 @@ _COMMANDS: Sequence[tuple[str, Callable[[argparse.ArgumentParser], None], str]] 
     ("dump", _add_dump, "Prints the documents of dumps, one a line."),
     ("pack", _add_pack, "Writes the dump of lines of Extended JSON."),
     ("find", _add_find, "Prints the documents of a dump that match a query, sorted."),
-    ("prepare", _add_prepare, "Keeps a copy of a dump with doubles or decimal128, for many questions."),
+    ("prepare", _add_prepare, "Keeps a copy of a dump with doubles or decimal128, for many sessions of Python."),
     ("audit", _add_audit, "Checks many files, on all processors."),
     ("salvage", _add_salvage, "Copies each document of a damaged dump to one of two files."),
     ("unpack", _add_unpack, "Writes the collections of an archive of mongodump to files."),
     ("compare", _add_compare, "Compares two dumps, or the dumps of two directories."),
     ("query", _add_query, "Prints the documents of many files that match a query, each with its file."),
+    ("count", _add_count, "Counts documents, of each value of a field too, and adds numbers."),
+    ("schema", _add_schema, "Prints the fields of documents, with their types and values."),
+    ("info", _add_info, "Prints the collections of a backup: documents, bytes, indexes, options."),
+    ("grep", _add_grep, "Prints the fields of many files that have a text, an id or a UUID."),
     ("ids", _add_ids, "Prints the documents of a file of ids, and reports ids without a document."),
 )

@@ -75,12 +75,12 @@ def _run_find(words: argparse.Namespace) -> int:
     from .finding import Finding
 
     request = Request(words.query, words.sort, words.skip, words.limit)
-    finding = Finding(words.file, request, words.batch, words.index, words.after, words.bson, words.copy)
+    finding = Finding(words.file, request, words.batch, words.index, words.after, words.bson)
     return GOOD if finding.print(words.program, Console()) else FAULTY
 
 
 def _run_prepare(words: argparse.Namespace) -> int:
-    from .._ask.copies import prepare
+    from .._ask.kept import prepare
 
     console = Console()
     try:
@@ -235,6 +235,41 @@ def _run_query(words: argparse.Namespace) -> int:
             status = max(status, FAULTY if isinstance(error, DumpError) and error.is_finding else FAILED)
     console.note(f"{documents} documents in {len(names)} of {len(dumps)} files" + (f", {failed} not asked in full" if failed else ""))
     return status
+
+
+def _run_count(words: argparse.Namespace) -> int:
+    from .._backup.count import Count
+    from .._dumps.paths import Path
+    from .counting import Counting
+
+    _refuse_twice(words.files)
+    by, add = (None if it is None else Path(it) for it in (words.by, words.sum))
+    return Counting(words.files, words.program, words.json).count(Count(by, add), words.query)
+
+
+def _run_schema(words: argparse.Namespace) -> int:
+    from .._backup.schema import Schema
+    from .counting import Counting
+
+    _refuse_twice(words.files)
+    return Counting(words.files, words.program, words.json).schema(Schema(words.sample))
+
+
+def _run_info(words: argparse.Namespace) -> int:
+    from .contents import print_info
+
+    return print_info(words, _names_in(words))
+
+
+def _run_grep(words: argparse.Namespace) -> int:
+    from .contents import print_grep
+
+    if words.regex is None and not words.files:
+        raise Refused("grep takes a text, or --regex, and then the names of dumps")
+    text = words.files.pop(0) if words.regex is None else words.regex
+    names = _names_in(words)
+    _refuse_twice(names)
+    return print_grep(words, text, names)
 
 
 def _run_ids(words: argparse.Namespace) -> int:

@@ -96,14 +96,14 @@ def _writing() -> Iterator[None]:
 class Progress:
     """How many files and bytes were read, and the time that is left: a line of the console, where it is a terminal."""
 
-    def __init__(self, console: Console | None, files: int = 1, size: int | None = None) -> None:
-        """Without a size it is that of the sources that are read."""
+    def __init__(self, console: Console | None, files: int = 1, size: int | None = None, after: float = 0.0) -> None:
+        """Without a size it is that of the sources that are read. The line is printed after some seconds."""
         self._console = console if console and console.on_terminal else None
         self._files, self._size = files, size
         self._files_read = self._bytes_read = 0
         self._open: set[Source] = set()
         self._lock, self._end = threading.Lock(), threading.Event()
-        self._begin = time.monotonic()
+        self._begin, self._after = time.monotonic(), after
         self._ticker = threading.Thread(target=self._tick, daemon=True)
 
     @contextmanager
@@ -140,7 +140,7 @@ class Progress:
             self._show()
 
     def _show(self) -> None:
-        if self._console:
+        if self._console and time.monotonic() - self._begin >= self._after:
             with self._lock:
                 done = self._bytes_read + sum(source.position() for source in self._open if source.size is not None)
                 files = self._files_read

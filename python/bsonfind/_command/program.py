@@ -16,7 +16,9 @@ _LARGEST = 4_294_967_295
 # The first bytes of what is no plain dump: an archive, or a file of gzip, which may hold one.
 _OTHERS = (b"\x6d\xe2\x99\x81", b"\x1f\x8b")
 # The commands of one plain dump that are those of the program, and the one of a text, which the program opens itself.
-_OF_DUMPS, _OF_TEXTS = ("check", "dump"), ("pack",)
+_OF_DUMPS, _OF_TEXTS = ("check", "dump", "find"), ("pack",)
+# The options of these commands: those of `find`, each with a text or a number.
+_TEXTS, _NUMBERS, _MOST = ("--query", "--sort", "--index", "--after"), ("--skip", "--limit", "--batch"), 2_147_483_647
 
 
 def become_program(words: list[str]) -> None:
@@ -28,16 +30,42 @@ def become_program(words: list[str]) -> None:
     rest, program = list(words), "bsonfind"
     if rest[:1] == ["--program"] and len(rest) > 1:
         program, rest = rest[1], rest[2:]
-    if len(rest) != 2 or rest[0] not in (*_OF_DUMPS, *_OF_TEXTS) or rest[1] != "-" and rest[1].startswith("-"):
+    if not rest or rest[0] not in (*_OF_DUMPS, *_OF_TEXTS):
         return
-    command, file = rest
+    command, (files, options) = rest[0], _split(rest[1:])
+    if len(files) != 1 or files[0] != "-" and files[0].startswith("-") or options and command != "find":
+        return
+    file = files[0]
     wide = located_wide(program)
     if wide is None or not (_has_streams() and (command in _OF_TEXTS or _take_as_input(file)) and says(wide, f"bsonwide {__version__}\n".encode())):
         return
     try:
-        execute(wide, [command, file if command in _OF_TEXTS else "-"])
+        execute(wide, [command, file if command in _OF_TEXTS else "-", *options])
     except OSError:
         pass  # The command says why it cannot be started.
+
+
+def _split(words: list[str]) -> tuple[list[str], list[str]]:
+    """The files of a command line, and its options of `find` with their values. What is none, or has no good value, is among the files."""
+    files: list[str] = []
+    options: list[str] = []
+    while words:
+        name, equals, value = words[0].partition("=")
+        taken = words[: 1 if equals or name not in (*_TEXTS, *_NUMBERS) else 2]
+        del words[: len(taken)]
+        value = value if equals or len(taken) == 1 else taken[1]
+        (options if (equals or len(taken) == 2) and _is_option(name, value) else files).extend(taken)
+    return files, options
+
+
+def _is_option(name: str, value: str) -> bool:
+    """Whether it is an option with a value that the program takes for one: else the command says what is wrong with it."""
+    if name in _NUMBERS:
+        return value.isascii() and value.isdigit() and len(value) < 100 and int(value) <= _MOST
+    try:
+        return name in _TEXTS and os.fsencode(value).decode() is not None
+    except UnicodeDecodeError:
+        return False
 
 
 def execute(program: str, words: list[str]) -> None:

@@ -37,19 +37,26 @@ def begins_wide(source: Source, program: str, group: Group | None = None) -> boo
 
 
 class Checking:
-    """The check of a dump of all types. `documents` is how many were checked by now."""
+    """The check of a dump of all types. `documents` is how many were checked by now, and `bytes` how many these have, unpacked."""
 
     def __init__(self, program: str, group: Group | None = None) -> None:
         self._program, self._group = program, group or Group()
-        self.documents = 0
+        self.documents = self.bytes = 0
 
     def faults(self, source: Source) -> Iterator[Fault]:
         """The damage, in the order of the documents."""
         for part in source.inputs():
-            with checking(part, self._program, self._group) as run:
+            given = part if part.pieces is None else part._replace(pieces=self._counted(part.pieces))
+            with checking(given, self._program, self._group) as run:
                 for fault in faults_of(run):
                     yield fault.moved(self.documents, part.offset)
                 self.documents += finish_check(run)
+            self.bytes = self.bytes if part.file is None else source.size or 0
+
+    def _counted(self, pieces: Iterator[bytes]) -> Iterator[bytes]:
+        for piece in pieces:
+            self.bytes += len(piece)
+            yield piece
 
 
 def faults_of(run: Run) -> Iterator[Fault]:

@@ -2,12 +2,17 @@
 
 from __future__ import annotations
 
+import struct
 from typing import Sequence
 
 # How many bytes the values of a type have; or the first four count, beside all but this many.
 _FIXED = {0x01: 8, 0x06: 0, 0x07: 12, 0x08: 1, 0x09: 8, 0x0A: 0, 0x10: 4, 0x11: 8, 0x12: 8, 0x13: 16, 0x7F: 0, 0xFF: 0}
 _COUNTED = {0x02: 4, 0x03: 0, 0x04: 0, 0x05: 5, 0x0C: 16, 0x0D: 4, 0x0E: 4, 0x0F: 0}
-_PATTERN, _DOCUMENT = 0x0B, 0x03
+PATTERN, _DOCUMENT = 0x0B, 0x03
+# How many bytes the values of each type have, by the type; of those that are counted -1 less how many they have beside the count.
+# A pattern is neither.
+SIZES = [_FIXED.get(kind, ~_COUNTED.get(kind, 0)) for kind in range(0x100)]
+_length_at = struct.Struct("<i").unpack_from
 
 
 def value_end(data: bytes, kind: int, at: int) -> int | None:
@@ -17,10 +22,20 @@ def value_end(data: bytes, kind: int, at: int) -> int | None:
         end = at + _FIXED[kind]
     elif kind in _COUNTED and at + 4 <= len(data):
         end = at + int.from_bytes(data[at : at + 4], "little", signed=True) + _COUNTED[kind]
-    elif kind == _PATTERN:
+    elif kind == PATTERN:
         options = data.find(b"\0", at) + 1
         end = options and (data.find(b"\0", options) + 1 or None) or None
     return end if end is not None and at <= end <= len(data) else None
+
+
+def end_of(data: bytes, kind: int, at: int) -> int:
+    """Where a value ends that begins at a byte of a document without a fault."""
+    size = SIZES[kind]
+    if size >= 0:
+        return at + size
+    if kind == PATTERN:
+        return data.index(b"\0", data.index(b"\0", at) + 1) + 1
+    return at + int(_length_at(data, at)[0]) + ~size
 
 
 def value_at(document: bytes, names: Sequence[bytes]) -> bytes | None:

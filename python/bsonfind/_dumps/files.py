@@ -12,7 +12,7 @@ from typing import BinaryIO, Iterator, NamedTuple
 from .._errors import DumpError
 from .._names import File, name_of
 from . import gzip
-from .archive import documents_of, is_archive
+from .archive import Listed, documents_of, is_archive
 from .archive_frames import Namespace
 
 _PIECE = 1 << 20
@@ -121,10 +121,10 @@ def not_opened(path: File, error: OSError) -> DumpError:
     return DumpError(f"cannot read {name}: it is a directory" if isinstance(error, IsADirectoryError) else f"cannot open {name}")
 
 
-def unpacked_of(path: File, pieces: Iterator[bytes]) -> Iterator[bytes]:
-    """The bytes of a dump that is packed, out of the pieces of its file."""
+def unpacked_of(path: File, pieces: Iterator[bytes], listed: list[Listed] | None = None) -> Iterator[bytes]:
+    """The bytes of a dump that is packed, out of the pieces of its file. The list of an archive is added to another one."""
     member = member_of(path)
-    return documents_of(pieces, member.namespace) if member else gzip.unpacked(pieces)
+    return documents_of(pieces, member.namespace, listed) if member else gzip.unpacked(pieces)
 
 
 def pieces_of(file: BinaryIO, path: File) -> Iterator[bytes]:

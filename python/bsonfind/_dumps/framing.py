@@ -16,11 +16,6 @@ _PIECE = 1 << 18
 _length_at = struct.Struct("<i").unpack_from
 
 
-def is_length(length: int, left: int) -> bool:
-    """Whether a document of that length may begin where this many bytes are left."""
-    return SHORTEST <= length <= min(LONGEST, left)
-
-
 def read_at(file: BinaryIO, at: int, most: int, least: int = 1) -> bytes:
     """Some bytes of a file at a place; an error where the file no longer has this many."""
     piece = os.pread(file.fileno(), most, at)

@@ -3,17 +3,22 @@
 from __future__ import annotations
 
 import struct
-from decimal import Decimal
+from decimal import Context, Decimal, ROUND_HALF_EVEN
 from fractions import Fraction
 from math import isfinite
 from typing import Union
 
 # The value of a number: of NaN and infinity a Decimal.
 Value = Union[Fraction, Decimal]
+# A number as it is: of a double a float, of a decimal128 a Decimal. Python compares them by their values, exactly.
+Number = Union[int, float, Decimal]
 # The types of numbers in a dump, with how many bytes each has, and the bits of the digits of a decimal128.
-_DOUBLE, _DECIMAL = 0x01, 0x13
-_SIZES = {_DOUBLE: 8, 0x10: 4, 0x12: 8, _DECIMAL: 16}
+DOUBLE, DECIMAL, INTEGERS = 0x01, 0x13, (0x10, 0x12)
+_SIZES = {DOUBLE: 8, 0x10: 4, 0x12: 8, DECIMAL: 16}
 _DIGITS = (1 << 113) - 1
+# As decimal128 rounds: to 34 digits, and no further than its exponents reach.
+DECIMAL128 = Context(prec=34, rounding=ROUND_HALF_EVEN, Emin=-6143, Emax=6144, clamp=1, traps=[])
+_double_at = struct.Struct("<d").unpack_from
 
 
 def number_in(field: bytes) -> Value | None:
@@ -23,18 +28,34 @@ def number_in(field: bytes) -> Value | None:
     data = field[at : at + size]
     if not size or len(data) < size:
         return None
-    if field[0] == _DOUBLE:
-        (double,) = struct.unpack("<d", data)
-        return Fraction(double) if isfinite(double) else Decimal(double)
-    bits = int.from_bytes(data, "little", signed=True)
-    return _decimal_of(bits) if field[0] == _DECIMAL else Fraction(bits)
+    number = number_of(field[:1] + data)
+    assert number is not None
+    return Fraction(number) if is_finite(number) else Decimal(number)
 
 
-def _decimal_of(bits: int) -> Value:
-    """The value of a decimal128; one with too many digits is zero."""
+def number_of(value: bytes) -> Number | None:
+    """The number of a value, whose type is its first byte; None if it is no number."""
+    kind = value[0]
+    if kind == DOUBLE:
+        double: float = _double_at(value, 1)[0]
+        return double
+    if kind not in _SIZES:
+        return None
+    bits = int.from_bytes(value[1:], "little", signed=True)
+    return _decimal_of(bits) if kind == DECIMAL else bits
+
+
+def is_finite(number: Number) -> bool:
+    """Whether it is neither NaN nor infinite."""
+    return number.is_finite() if isinstance(number, Decimal) else isfinite(number)
+
+
+def _decimal_of(bits: int) -> Decimal:
+    """The number of a decimal128. One with too many digits is zero, and so is one in the other form, whose digits are too many."""
     sign = "-" if bits < 0 else ""
     if bits >> 123 & 0b1111 == 0b1111:
         return Decimal("NaN" if bits >> 122 & 1 else f"{sign}Infinity")
-    has_few_digits = bits >> 125 & 0b11 != 0b11 and bits & _DIGITS < 10**34
-    digits, power = (bits & _DIGITS, (bits >> 113 & 0x3FFF) - 6176) if has_few_digits else (0, 0)
-    return Fraction(f"{sign}{digits}") * Fraction(10) ** power
+    is_long_form = bits >> 125 & 0b11 == 0b11
+    power = (bits >> (111 if is_long_form else 113) & 0x3FFF) - 6176
+    digits = 0 if is_long_form or bits & _DIGITS >= 10**34 else bits & _DIGITS
+    return Decimal(f"{sign}{digits}E{power}")

@@ -5,6 +5,7 @@ from __future__ import annotations
 import os
 import stat
 import struct
+from contextlib import contextmanager
 from dataclasses import dataclass, field
 from typing import BinaryIO, Iterable, Iterator
 
@@ -48,13 +49,19 @@ class Part:
     def pieces(self) -> Iterator[bytes]:
         """The bytes of the part, which is an error where the file no longer has them."""
         left = self.length
-        with opened(self.path) as file:
-            self._check_state(file)
+        with self.opened() as file:
             for piece in self._bytes_of(file):
                 yield piece
                 left -= len(piece)
             if left:
                 raise PartError(self, f"{left} bytes are missing: the file became shorter")
+
+    @contextmanager
+    def opened(self) -> Iterator[BinaryIO]:
+        """The open file, as it was when it was split, before and after it is read."""
+        with opened(self.path) as file:
+            self._check_state(file)
+            yield file
             self._check_state(file)
 
     def _bytes_of(self, file: BinaryIO) -> Iterator[bytes]:

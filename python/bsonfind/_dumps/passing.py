@@ -2,13 +2,16 @@
 
 from __future__ import annotations
 
+import struct
 from typing import Callable, Iterable, Iterator
 
 from .._errors import DumpError
 from .._run.processes import Group
 from .checking import checking, faults_of, finish_check
-from .framing import LONGEST, inputs, is_length
+from .framing import LONGEST, SHORTEST, inputs
 from .sources import Input, Source
+
+_length_at = struct.Struct("<i").unpack_from
 
 
 def each_document(source: Source, program: str, take: Callable[[bytes], None], group: Group | None = None) -> int:
@@ -33,8 +36,8 @@ def documents_taken(pieces: Iterable[bytes], take: Callable[[bytes], None]) -> I
         data = rest + piece if rest else piece
         at, size = 0, len(data)
         while not is_wrong and at + 4 <= size:
-            length = int.from_bytes(data[at : at + 4], "little")
-            is_wrong = not is_length(length, LONGEST)
+            (length,) = _length_at(data, at)
+            is_wrong = not SHORTEST <= length <= LONGEST
             if is_wrong or at + length > size:
                 break
             take(data[at : at + length])

@@ -10,6 +10,7 @@ from .._errors import DumpError
 from .._names import File, name_of
 from .._run.processes import Dump, Run
 from . import framing
+from .archive import Listed
 from .files import FileState, begins_as_archive, file_of, is_packed, member_of, not_opened, read_some, refuse_archive, unpacked_of
 
 _PIECE = 1 << 18
@@ -47,6 +48,8 @@ class Source:
         # The rights of the file, None for a pipe or a device.
         self.mode: int | None = None
         self._start = self._read = 0
+        # Of a collection of an archive what the list of this says, once it is read.
+        self.listed: list[Listed] = []
         if self.name == "-" or not _is_pipe(self.name):
             status = os.fstat(self.file.fileno())
             if stat.S_ISREG(status.st_mode):
@@ -94,7 +97,7 @@ class Source:
     def pieces(self) -> Iterator[bytes]:
         """All bytes of the dump, unpacked where it is packed. One that is damaged is an `UnpackError` after what comes before."""
         self.refuse_archive()
-        return unpacked_of(self.name, self.raw()) if self.is_packed else self.raw()
+        return unpacked_of(self.name, self.raw(), self.listed) if self.is_packed else self.raw()
 
     def inputs(self, most: int | None = None) -> Iterator[Input]:
         """What runs read one after the other, at most this many bytes each; without a number as many as a run can read.

@@ -19,6 +19,7 @@ _WORDS = {
     ),
     "filter": ("unknown operator", "not in the profile", "bad operand", "operators and fields mixed", "bad path", "too deep"),
     "path": ("empty component", "too many components"),
+    "numbers": ("the types of numbers are not told apart here",),
 }  # fmt: skip
 _SESSION = {"not a sort": 1, "not a token": 7, "token of another dump or request": 8, "token place past the dump": 9}
 _REFUSAL = re.compile(r'(query|sort|index|token): (?:byte (\d+): |place (".*"): )?(.+)')
@@ -54,10 +55,13 @@ def _refusal(line: str) -> CommandError | None:
     if not found:
         return None
     option, byte, place, words = found.groups()
-    if words in _SESSION:
-        return CommandError("session", _SESSION[words], words)
-    layer = "path" if option == "index" else "filter" if place else "json"
-    if words not in _WORDS[layer]:
-        return None
+    layer = "path" if option == "index" else "numbers" if words in _WORDS["numbers"] else "filter" if place else "json"
     where = json.loads(place) if place else int(byte) if byte else None
-    return CommandError(layer, _WORDS[layer].index(words) + 1, words, where)
+    if words in _SESSION:
+        refused = CommandError("session", _SESSION[words], words)
+    elif words in _WORDS[layer]:
+        refused = CommandError(layer, _WORDS[layer].index(words) + 1, words, where)
+    else:
+        return None
+    refused.line = line
+    return refused

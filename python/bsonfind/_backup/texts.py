@@ -1,0 +1,73 @@
+"""The texts of values that commands print, and the order in which MongoDB sorts values."""
+
+from __future__ import annotations
+
+from decimal import Decimal
+from typing import Iterator, Sequence
+
+from .._dumps.numbers import DECIMAL128, Number, is_finite, number_of
+from .._dumps.printing import texts_of_values
+
+# The rank of each type where MongoDB sorts values of several. Numbers of all types have one, and so have texts and symbols.
+_RANKS = {
+    0xFF: 0, 0x06: 1, 0x0A: 1, 0x01: 2, 0x10: 2, 0x12: 2, 0x13: 2, 0x02: 3, 0x0E: 3, 0x03: 4, 0x04: 5, 0x05: 6, 0x07: 7, 0x08: 8,
+    0x09: 9, 0x11: 10, 0x0B: 11, 0x0C: 12, 0x0D: 13, 0x0F: 14, 0x7F: 15,
+}  # fmt: skip
+_DATE, _TIMESTAMP, _BINARY = 0x09, 0x11, 0x05
+# The types whose values are documents, or have one in them.
+NESTED = (0x03, 0x04, 0x0F)
+# What has more digits as a whole number is printed with an exponent.
+_MOST_WHOLE = 1 << 63
+# How many values, or bytes of values, are printed by one run.
+_MOST_VALUES, _MOST_BYTES = 10_000, 1 << 22
+
+
+def text_of_number(number: Number) -> str:
+    """A number that has no type, since it is equal to some of several: as JSON, or if no double is equal to it, as a decimal128."""
+    if not is_finite(number):
+        return f'{{"$numberDouble":"{"NaN" if number != number else "Infinity" if number > 0 else "-Infinity"}"}}'
+    if isinstance(number, int) or -_MOST_WHOLE <= number < _MOST_WHOLE and number == int(number):
+        return str(int(number))
+    if float(number) == number:
+        return repr(float(number))
+    return f'{{"$numberDecimal":"{Decimal(number).normalize(DECIMAL128)}"}}'
+
+
+def texts(values: Sequence[bytes], program: str) -> Iterator[str]:
+    """The texts of values as `dump` prints them, but numbers without their types."""
+    waiting: list[bytes] = []
+    size = 0
+    for value in values:
+        waiting.append(value)
+        size += len(value)
+        if len(waiting) == _MOST_VALUES or size > _MOST_BYTES:
+            yield from _texts(waiting, program)
+            waiting, size = [], 0
+    yield from _texts(waiting, program)
+
+
+def _texts(values: list[bytes], program: str) -> Iterator[str]:
+    others = [it for it in values if number_of(it) is None]
+    printed = iter(texts_of_values(others, program) if others else ())
+    for value in values:
+        number = number_of(value)
+        yield next(printed) if number is None else text_of_number(number)
+
+
+def order_of(value: bytes, text: str = "") -> tuple[object, ...]:
+    """What has the order of values of all types: that in which MongoDB sorts them; documents and arrays are sorted by their texts."""
+    kind = value[0]
+    number = number_of(value)
+    inner: object = value[1:]
+    if number is not None:
+        # NaN is before all others.
+        return (_RANKS[kind], 0, 0) if number != number else (_RANKS[kind], 1, number)
+    if kind in (_DATE, _TIMESTAMP):
+        inner = int.from_bytes(value[1:], "little", signed=kind == _DATE)
+    elif kind in NESTED:
+        inner = text
+    elif kind == _BINARY:
+        inner = (len(value), value[5:])
+    elif _RANKS[kind] == 3:
+        inner = value[5:]
+    return _RANKS[kind], 1, inner, kind

@@ -1,0 +1,141 @@
+"""The commands `info` and `grep`: what a backup contains, and where in it something is."""
+
+from __future__ import annotations
+
+import argparse
+import json
+import os
+import re
+import warnings
+from contextlib import closing
+from typing import Protocol
+
+from .._backup.backups import Dump, dumps_of
+from .._backup.grep import Hits, Problem, grep_dumps, wanted_of
+from .._backup.info import COLUMNS, info_of
+from .._backup.search import Wanted
+from .._run.processes import processors
+from .arguments import Refused
+from .console import Console, Progress
+from .table import Table
+
+GOOD, FAULTY, FAILED = 0, 1, 2
+# The seconds after which a line of progress is printed.
+_PATIENCE = 1.0
+
+
+def print_info(words: argparse.Namespace, names: list[str]) -> int:
+    """Prints the collections of a backup, and what is wrong with them."""
+    console = Console()
+    entries, done = info_of(names, words.jobs, words.program, lambda files, size: Progress(console, files, size, _PATIENCE))
+    if words.json:
+        for entry in entries:
+            console.line(entry.as_json())
+    else:
+        Table(console, COLUMNS).print(entry.cells() for entry in entries)
+    for report in done.reports:
+        for line in report.lines() if not report.is_good else ():
+            console.problem(f"{report.name}: {line}")
+    return FAILED if done.unseen else GOOD if done.is_good else FAULTY
+
+
+def print_grep(words: argparse.Namespace, text: str, names: list[str]) -> int:
+    """Prints where a text is, or how often, and what was not searched."""
+    console = Console()
+    wanted = _wanted(words, text)
+    dumps = [*dumps_of(it for it in names if it != "-"), *(Dump(it) for it in names if it == "-")]
+    items = grep_dumps(dumps, wanted, words.jobs or processors(), words.program, lambda files, size: Progress(console, files, size, _PATIENCE))
+    kind: type[_Counts] | type[_Lines] | type[_Rows] = _Counts if words.count else _Lines if words.json else _Rows
+    printing: _Printing = kind(console)
+    documents, status = 0, GOOD
+    found: set[str] = set()
+    failed: set[str] = set()
+    with closing(items):
+        for item in items:
+            if isinstance(item, Problem):
+                console.problem(f"{item.name}: {item.text}")
+                failed.add(item.file)
+                status = max(status, FAULTY if item.is_fault else FAILED)
+            elif item.documents:
+                printing.print(item)
+                documents += item.documents
+                found.add(item.file)
+    printing.end()
+    console.note(f"{documents} documents in {len(found)} of {len(dumps)} files" + (f", {len(failed)} not searched in full" if failed else ""))
+    return status
+
+
+def _wanted(words: argparse.Namespace, text: str) -> Wanted:
+    """What is looked for; a text that is in every field, and a pattern that is none, are refused."""
+    try:
+        text = os.fsencode(text).decode()
+    except UnicodeDecodeError as error:
+        raise Refused(f"the text is not UTF-8 at byte {error.start}") from None
+    if not text:
+        raise Refused("an empty text is in each field")
+    if words.regex is None:
+        return wanted_of(text, words.ignore_case, not words.count)
+    try:
+        with warnings.catch_warnings():
+            warnings.simplefilter("ignore")
+            re.compile(text)
+    except (re.error, OverflowError, RecursionError) as error:
+        raise Refused(f"--regex: {error}") from None
+    return Wanted(text, True, words.ignore_case, seconds=words.timeout, with_values=not words.count)
+
+
+class _Printing(Protocol):
+    """How what is found is printed."""
+
+    def print(self, hits: Hits) -> None:
+        """Prints what was found in some documents."""
+
+    def end(self) -> None:
+        """Prints what is known at the end alone."""
+
+
+class _Rows:
+    """A row for each field."""
+
+    def __init__(self, console: Console) -> None:
+        self._table = Table(console, ("file", "_id", "path", "value"))
+
+    def print(self, hits: Hits) -> None:
+        """Prints the fields."""
+        self._table.print([(hits.name, it.id or "", it.path, it.value or "") for it in hits.rows])
+
+    def end(self) -> None:
+        """Prints nothing more."""
+
+
+class _Lines:
+    """A line of JSON for each field."""
+
+    def __init__(self, console: Console) -> None:
+        self._console = console
+
+    def print(self, hits: Hits) -> None:
+        """Prints the fields."""
+        name = json.dumps(hits.name)
+        lines = (f'{{"file":{name},"id":{it.id or "null"},"path":{json.dumps(it.path)},"value":{it.value or "null"}}}\n' for it in hits.rows)
+        self._console.documents([line.encode() for line in lines])
+
+    def end(self) -> None:
+        """Prints nothing more."""
+
+
+class _Counts:
+    """How many documents and fields of each dump have it."""
+
+    def __init__(self, console: Console) -> None:
+        self._table = Table(console, ("file", "documents", "fields"))
+        self._counts: dict[str, tuple[int, int]] = {}
+
+    def print(self, hits: Hits) -> None:
+        """Counts the fields."""
+        documents, fields = self._counts.get(hits.name, (0, 0))
+        self._counts[hits.name] = documents + hits.documents, fields + hits.fields
+
+    def end(self) -> None:
+        """Prints the counts, in the order in which the dumps came."""
+        self._table.print((name, str(documents), str(fields)) for name, (documents, fields) in self._counts.items())

@@ -1,0 +1,111 @@
+"""The commands `count` and `schema`: what they read, and the rows or the lines of JSON that they print."""
+
+from __future__ import annotations
+
+import json
+from decimal import Decimal
+from itertools import islice
+from typing import Iterable, Iterator, Sequence
+
+from .._backup.count import Count, Row
+from .._backup.reading import Reading, Take
+from .._backup.schema import Row as PathRow
+from .._backup.schema import Schema
+from .._backup.texts import texts
+from .._dumps.numbers import Number, is_finite
+from .._run.wide import wide_program
+from .console import Console, Progress
+from .table import Table
+
+GOOD, FAULTY, FAILED = 0, 1, 2
+# The columns of a sum, and what is printed of a document without the field.
+_OF_SUMS, _MISSING = ("sum", "NaN", "infinite", "other"), "missing"
+# How many rows are printed at once, and after how many seconds the progress is.
+_MOST_ROWS, _PATIENCE = 10_000, 1.0
+Cells = Sequence[str]
+
+
+class Counting:
+    """A run of one of the commands over some dumps."""
+
+    def __init__(self, names: Sequence[str], program: str, is_json: bool) -> None:
+        self._names, self._program, self._is_json = names, program, is_json
+        self._console = Console()
+        wide_program(program)
+
+    def count(self, count: Count, query: str | None) -> int:
+        """Prints how many documents match, in all or of each value, and gives the status."""
+        status, is_read = self._read(count.take) if query is None else self._read_matching(count.take, query)
+        if is_read:
+            names = (*(("value",) if count.is_by else ()), "count", *(_OF_SUMS if count.is_adding else ()))
+            self._print(names, self._counts(count.rows(self._program)))
+        return status
+
+    def schema(self, fields: Schema) -> int:
+        """Prints the fields of documents, and gives the status."""
+        status, is_read = self._read(fields.take)
+        if is_read:
+            self._print(("path", "types", "least", "greatest", "example"), self._fields(list(fields.rows())))
+            part = "" if fields.looked_at == fields.documents else f"{fields.looked_at} of "
+            self._console.note(f"{part}{fields.documents} documents")
+        return status
+
+    def _read_matching(self, take: Take, query: str) -> tuple[int, bool]:
+        from .._backup.matching import MOST, Matching
+
+        matching = Matching(query, self._program)
+        return self._read(lambda documents: take(matching.of(documents)), MOST)
+
+    def _read(self, take: Take, most: int | None = None) -> tuple[int, bool]:
+        """Reads the dumps, says what is wrong with them, and gives the status, and whether one was read."""
+        reading, status = Reading(self._program, most), GOOD
+        with Progress(self._console, len(self._names), after=_PATIENCE) as progress:
+            for name in self._names:
+                reading.read(name, take, progress)
+        for report in reading.reports:
+            if not report.is_good:
+                for line in report.lines():
+                    self._console.problem(f"{report.name}: {line}")
+                status = max(status, FAILED if report.error and not report.is_fault else FAULTY)
+        return status, any(it.documents or not it.error for it in reading.reports)
+
+    def _print(self, names: Cells, rows: Iterator[Cells]) -> None:
+        """Prints rows, some at once. As JSON each is an object, in which a cell that is empty has no name."""
+        table = Table(self._console, names)
+        while some := list(islice(rows, _MOST_ROWS)):
+            if self._is_json:
+                objects = (",".join(f'"{name}":{cell}' for name, cell in zip(names, cells) if cell) for cells in some)
+                self._console.documents([f"{{{it}}}\n".encode() for it in objects])
+            else:
+                table.print(some)
+
+    def _counts(self, rows: Sequence[Row]) -> Iterator[Cells]:
+        """The cells of rows of counts."""
+        values = texts([row.value for row in rows if row.value], self._program)
+        for row in rows:
+            value = () if row.value is None else (next(values) if row.value else "" if self._is_json else _MISSING,)
+            sums = () if row.sum is None else (self._sum(row.sum.value()), *map(str, (row.sum.nans, row.sum.infinities, row.sum.others)))
+            yield (*value, str(row.documents), *sums)
+
+    def _sum(self, number: Number) -> str:
+        """The text of a sum, which as JSON has its type where that is no number of JSON."""
+        text = str(number) if is_finite(number) else "Infinity" if number > 0 else "-Infinity"
+        if not self._is_json or isinstance(number, int) or isinstance(number, float) and text[-1].isdigit():
+            return text
+        return f'{{"${"numberDecimal" if isinstance(number, Decimal) else "numberDouble"}":"{text}"}}'
+
+    def _fields(self, rows: Sequence[PathRow]) -> Iterator[Cells]:
+        """The cells of rows of fields."""
+        values = texts([it for row in rows for it in row[2:] if it is not None], self._program)
+        for row in rows:
+            path = json.dumps(row.path, ensure_ascii=False) if self._is_json else row.path
+            types = json.dumps(row.types, separators=(",", ":")) if self._is_json else ", ".join(_shares(row.types))
+            yield (path, types, *("" if it is None else next(values) for it in row[2:]))
+
+
+def _shares(types: dict[str, int]) -> Iterable[str]:
+    """The types of values, each with its share of all. Only what is all of them is 100%, and none is 0%."""
+    total = sum(types.values())
+    for name, count in types.items():
+        share = f"{count / total:.1%}".replace(".0%", "%")
+        yield f"{name} {share if count == total else '<0.1%' if share == '0%' else '>99.9%' if share == '100%' else share}"

@@ -1,0 +1,99 @@
+"""The values to which a path leads in documents without a fault, in their bytes."""
+
+from __future__ import annotations
+
+import re
+import struct
+
+from .._errors import ArgumentError
+from .elements import PATTERN, SIZES, end_of
+
+# As many names as the program takes.
+_MOST_NAMES = 100
+_DOCUMENT, _ARRAY = 0x03, 0x04
+# The names that are a position in an array too.
+_POSITION = re.compile("0|[1-9][0-9]*", re.ASCII)
+_length_at = struct.Struct("<i").unpack_from
+
+
+class Path:
+    """The path of a field: names joined by dots, which a query takes too.
+
+    A name leads from a document to its first field of that name, from an array into each document in it, and if it is a number, to
+    the element at that position too.
+    """
+
+    def __init__(self, text: str) -> None:
+        names = text.split(".")
+        if len(names) > _MOST_NAMES or not all(names):
+            why = "too many components" if len(names) > _MOST_NAMES else "empty component"
+            raise ArgumentError(f'path "{text}": {why}')
+        self._text = text
+        # The bytes of each name, and the position that it is; no array has -1.
+        self._names = [(name.encode() + b"\0", int(name[:20]) if _POSITION.fullmatch(name) else -1) for name in names]
+
+    def __str__(self) -> str:
+        return self._text
+
+    def values(self, document: bytes) -> list[bytes]:
+        """The values to which it leads, each as its type and its bytes: of an array the elements, and an empty array itself."""
+        found: list[bytes] = []
+        self._from_document(document, 4, 0, found)
+        return found
+
+    def _from_document(self, data: bytes, at: int, level: int, found: list[bytes]) -> None:
+        """Follows the names from one on, from the document whose first field begins at a byte."""
+        find, is_name_at, length_at, sizes, names = data.find, data.startswith, _length_at, SIZES, self._names
+        while True:
+            name = names[level][0]
+            while (kind := data[at]) and not is_name_at(name, at + 1):
+                at = find(b"\0", at + 1) + 1
+                size = sizes[kind]
+                if size >= 0:
+                    at += size
+                elif kind == PATTERN:
+                    at = end_of(data, kind, at)
+                else:
+                    at += length_at(data, at)[0] + ~size
+            if not kind:
+                return
+            level, start = level + 1, at + 1 + len(name)
+            if level == len(names) and sizes[kind] >= 0:
+                found.append(data[at : at + 1] + data[start : start + sizes[kind]])
+                return
+            if level == len(names) or kind != _DOCUMENT:
+                self._from_value(data, kind, start, level, found)
+                return
+            at = start + 4
+
+    def _from_value(self, data: bytes, kind: int, at: int, level: int, found: list[bytes]) -> None:
+        """Follows the names from one on, from a value; after the last one it is found, or the elements of an array are."""
+        if level < len(self._names):
+            if kind == _DOCUMENT:
+                self._from_document(data, at + 4, level, found)
+            elif kind == _ARRAY:
+                self._from_array(data, at + 4, level, found)
+        elif kind == _ARRAY and data[at + 4]:
+            at, find, sizes = at + 4, data.find, SIZES
+            while kind := data[at]:
+                start = find(b"\0", at + 1) + 1
+                size = sizes[kind]
+                end = start + size if size >= 0 else end_of(data, kind, start)
+                found.append(data[at : at + 1] + data[start:end])
+                at = end
+        else:
+            found.append(bytes((kind,)) + data[at : end_of(data, kind, at)])
+
+    def _from_array(self, data: bytes, at: int, level: int, found: list[bytes]) -> None:
+        """The same from the elements of an array, the first of which begins at a byte."""
+        number, position, find = 0, self._names[level][1], data.find
+        while kind := data[at]:
+            start = find(b"\0", at + 1) + 1
+            if kind == _DOCUMENT:
+                at = start + _length_at(data, start)[0]
+                self._from_document(data, start + 4, level, found)
+            else:
+                at = end_of(data, kind, start)
+            if number == position:
+                self._from_value(data, kind, start, level + 1, found)
+            number += 1
