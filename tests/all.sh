@@ -43,6 +43,8 @@ if cp crates/bsonfind/out/bsonfind bsonfind && cp crates/bsonwide/out/bsonwide b
 	add
 	tests/wide/questions.py bsonfind 25 | tee "$log"
 	add
+	tests/wide/finds.py bsonwide 40 | tee "$log"
+	add
 	tests/wide/others.py --count 10000 | tee "$log"
 	add
 else

@@ -61,6 +61,7 @@ USED_BY_UNCALLED = (
     "Rattle.bd_bson_check.proofs.ProfileLemmas.others_are_first",
     "Rattle.bd_wide_number.proofs.CodeLemmas.",
     "Rattle.bd_wide_number.proofs.LawLemmas.",
+    "Rattle.bd_wide_order.proofs.QueryLemmas.request_read",
     "Rattle.bd_wide_order.proofs.ReachLemmas.passing_over",
     "Rattle.bd_wide_dump.specs.inside.Begins.values_in",
     "Rattle.bd_cli_scan.specs.Run.StopsWithin",

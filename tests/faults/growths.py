@@ -47,6 +47,8 @@ DOUBLE = bytes.fromhex("10000000 01 6400 000000000000f03f 00")
 DOUBLE_LINE = '{"d":{"$numberDouble":"1.0"}}\n'
 DECIMAL = bytes.fromhex("18000000 13 6400 9600000000000000 0000000000003c30 00")
 DECIMAL_LINE = '{"d":{"$numberDecimal":"1.50"}}\n'
+# {"d":1}, {"d":3} and {"a":1} of int32.
+CODED = bytes.fromhex("0c000000 10 6400 01000000 00 0c000000 10 6400 03000000 00 0c000000 10 6100 01000000 00")
 # {"~n":0,"d":1} of two int64.
 ORDERED = bytes.fromhex("1c000000 12 7e6e00 0000000000000000 12 6400 0100000000000000 00")
 # The second element of an array in an array is a boolean of 2.
@@ -192,6 +194,12 @@ def wide_runs() -> list[Run]:
         Run("dump of numbers", ["dump", "-"], b"".join(numbers), number_lines, "3 objects found\n"),
         Run("pack of numbers", ["pack", "-"], b"".join(number_lines), numbers, "3 objects packed\n"),
         Run("pack of a bare double", ["pack", "-"], b'{"d":1.0}\n{"d":1e999}', [DOUBLE], f"{NAME}: line 2, byte 5: number out of range\n1 objects packed\n", 1),
+        # The numbers are 1 and 1.5, so their codes are 1 and 3, and that of 2 is 4.
+        Run("find by value", ["find", "-", "--query", '{"d":{"$gte":1.5}}'], b"".join(numbers), number_lines[1:2], counted(1, "end", 1, CODED, query='{"d":{"$gte":{"$numberLong":"3"}}}')),
+        Run("find of the greatest", ["find", "-", "--sort", '{"d":-1}', "--limit", "1"], b"".join(numbers), number_lines[1:2], counted(1, "end", 1, CODED, sort='{"d":-1}', limit=1)),
+        Run("find, some types of numbers", ["find", "-", "--query", '{"d":{"$type":"double"}}'], DOUBLE, [], f"{NAME}: query: the types of numbers are not told apart here\n", 1),
+        Run("find, a bad number", ["find", "-", "--query", '{"d":{"$numberDouble":"x"}}'], DOUBLE, [], f"{NAME}: query: byte 5: bad wrapper\n", 1),
+        Run("find, a bad dump", ["find", "-", "--query", '{"d":1.5}'], DOUBLE + BAD, [], f'{NAME}: document 1, byte 40, path "a.0.1": bad boolean\n', 1),
         Run("order", ["order", "-"], DOUBLE, [ORDERED], ""),
         Run("order of a number without a code", ["order", "-"], DOUBLE + DECIMAL, [ORDERED], f"{NAME}: {refused}\n", 1),
     ]

@@ -33,8 +33,8 @@ DUMPS = int(sys.argv[2]) if len(sys.argv) > 2 else 50
 SEED = int(sys.argv[3]) if len(sys.argv) > 3 else 7
 REQUESTS = 20
 
-# Each is a double: a field with fractions and a number that no double equals is refused.
-NUMBERS = [0, 0.0, -0.0, 1, 1.0, 1.5, 2, 2.5, -1, -1.5, 9.99, 1e300, -1e300, 5e-324, 2**53, 2.0**53, 2**53 + 2, 2.0**53 + 4, -(2**62), float("inf"), float("-inf")]
+# Some are whole numbers that no double equals.
+NUMBERS = [2**53 + 1, -(2**53) - 1, 2**63 - 1, 0, 0.0, -0.0, 1, 1.0, 1.5, 2, 2.5, -1, -1.5, 9.99, 1e300, -1e300, 5e-324, 2**53, 2.0**53, 2**53 + 2, 2.0**53 + 4, -(2**62), float("inf"), float("-inf")]
 COMPARISONS = ["$eq", "$ne", "$gt", "$gte", "$lt", "$lte"]
 PATHS = ["a", "b", "c.d"]
 

@@ -4,8 +4,9 @@
     tests/wide/questions.py [PROGRAM [DUMPS [SEED]]]
 
 The program is `bsonfind`, with `bsonwide` beside it. The model compares all numbers exactly, as MongoDB does, and the documents
-that are found must be those of the dump to the byte. What is refused for its numbers is counted, and must be one of what is said to be.
-Of some dumps the beginning is looked at first, as of large ones.
+that are found must be those of the dump to the byte: by runs of `bsonwide find`, whole and a page at a time, of parts, and by sessions,
+of which some begin with a look at the first bytes, as those over large dumps do. Of a session what is refused for its numbers is
+counted, and must be one of what is said to be. A run refuses `$type` of some types of numbers alone.
 """
 
 import random
@@ -22,13 +23,13 @@ from model.texts import decimal_in
 from support import PROGRAM as BUILT
 from support import Tests
 
-from bsonfind import CommandError, DumpError, Session, find
+from bsonfind import CommandError, DumpError, Session, count_documents, find, find_parts, plan
 from bsonfind._dumps import checking
 
 PROGRAM = str(Path(sys.argv[1]).resolve()) if len(sys.argv) > 1 else str(BUILT)
 DUMPS = int(sys.argv[2]) if len(sys.argv) > 2 else 200
 SEED = int(sys.argv[3]) if len(sys.argv) > 3 else 58
-REQUESTS = 25
+REQUESTS, RUNS = 25, 4
 
 # Of each kind of dump its numbers: those that doubles equal, amounts with two digits, and all at once.
 DOUBLES = [0.0, -0.0, 0.1, 0.5, 1.0, 1.5, 2.0, -1.0, -1.5, 9.99, 3.0, 1e300, -1e300, 5e-324, 2.0**53, 2.0**53 + 2, float("inf"), float("-inf"), float("nan")]
@@ -99,10 +100,11 @@ class WideInputs(Inputs):
         return super().text(value)
 
 
-# Why a request or a dump is refused for its numbers.
+# Why a request is refused for its numbers by a run, and why a request or a dump by a session.
+NOT_TOLD = "the types of numbers are not told apart here"
 REASONS = (
     "cannot be compared exactly with the numbers of this field",
-    "the types of numbers are not told apart here",
+    NOT_TOLD,
     "a path through the field ~n",
     "the field has NaN, which counts as the least number",
     "NaN is neither less nor greater than a number",
@@ -123,11 +125,14 @@ class Asking:
         self.is_hidden, self.beside = False, 0
 
     def ask_dump(self, number: int) -> None:
-        """Asks a dump by a session, and once by a run."""
+        """Asks a dump by runs, and by a session."""
         documents = self.inputs.documents()
         model, path = Dump(documents), self.room / "dump.bson"
         path.write_bytes(model.bytes)
         checking._HEAD = self.rng.choice([30, 300, 1 << 18])
+        for _ in range(RUNS):
+            request, texts = self.request()
+            self.ask_runs(f"dump {number}, {texts}", model, path, request, texts)
         try:
             with Session(path, PROGRAM) as session:
                 for _ in range(self.rng.choice([0, 0, 1, 2])):
@@ -140,22 +145,48 @@ class Asking:
                         except DumpError as error:  # It would have numbers that are hidden.
                             self.note(f"dump {number}: index", error)
                 self.is_hidden = bool(session._questions._codes.hidden)
-                for turn in range(REQUESTS):
+                for _ in range(REQUESTS):
                     request, texts = self.request()
-                    name = f"dump {number}, {texts}"
-                    self.ask(name, model, request, lambda: list(session.find(Raw(texts[0]), sort=Raw(texts[1]), skip=request.skip, limit=request.limit, decode="bson")))
-                    if turn == 0:
-                        self.ask(f"{name}: a run", model, request, lambda: list(find(path, Raw(texts[0]), sort=Raw(texts[1]), skip=request.skip, limit=request.limit, decode="bson", program=PROGRAM)))
-                        self.ask(f"{name}: an index", model, request, lambda: list(find(path, Raw(texts[0]), sort=Raw(texts[1]), skip=request.skip, limit=request.limit, decode="bson", index="a", program=PROGRAM)))
+                    self.ask(f"dump {number}, {texts}", model, request, lambda: list(session.find(Raw(texts[0]), **asked(request, texts), decode="bson")))
         except DumpError as error:
             self.note(f"dump {number}", error)
+
+    def ask_runs(self, name: str, model: Dump, path: Path, request: Request, texts: tuple[str, str]) -> None:
+        """Asks by runs: by a scan, by an index, a page at a time, by parts, and for the count."""
+        query, how = Raw(texts[0]), asked(request, texts)
+
+        def pages() -> list[bytes]:
+            found, token, end = [], None, False
+            while not end:
+                answer = find(path, query, **how, page=self.rng.choice([1, 2, 50]), after=token, decode="bson", program=PROGRAM)
+                found += answer
+                token, end = answer.token, answer.end
+            return found
+
+        def lines() -> list[bytes]:
+            """Those of the documents that the model has."""
+            return list(find(path, query, **how, decode="bytes", program=PROGRAM))
+
+        whole = lambda **more: list(find(path, query, **how, **more, decode="bson", program=PROGRAM))  # noqa: E731
+        self.ask(f"{name}: a run", model, request, whole, (NOT_TOLD,))
+        self.ask(f"{name}: an index", model, request, lambda: whole(index=self.rng.choice(["a", "b", "a.b"])), (NOT_TOLD,))
+        self.ask(f"{name}: pages", model, request, pages, (NOT_TOLD,))
+        try:
+            found = lines()
+        except CommandError:
+            return  # It was looked at above.
+        parted = find_parts(plan(path, self.rng.choice([50, 200, 1000])), query, **how, decode="bytes", program=PROGRAM)
+        self.tests.want(f"{name}: parts", parted == found, (parted, found))
+        if not (request.skip or request.limit):
+            count = count_documents(path, query, program=PROGRAM)
+            self.tests.want(f"{name}: count", count == len(found), (count, len(found)))
 
     def request(self) -> tuple[Request, tuple[str, str]]:
         query, sort = self.inputs.filter(), self.inputs.sort()
         request = Request(query, sort, self.rng.choice([0, 0, 0, 1, 2]), self.rng.choice([0, 0, 0, 1, 5]))
         return request, (self.inputs.text(query), self.inputs.text(sort))
 
-    def ask(self, name: str, model: Dump, request: Request, answer: object) -> None:
+    def ask(self, name: str, model: Dump, request: Request, answer: object, reasons: tuple[str, ...] = REASONS) -> None:
         try:
             check_filter(request.query)
             fault = None if sort_pairs(request.sort) is not None else "sort"
@@ -168,14 +199,14 @@ class Asking:
                 told = error.number if error.layer == "filter" else "sort" if error.text == "not a sort" else error.layer
                 self.tests.want(name, told == fault or (fault is not None and told in ("json", "path", "sort")), (error, fault))
             else:
-                self.note(name, error)
+                self.note(name, error, reasons)
             return
         wanted = None if fault else [encoded(model.documents[place]) for place in model.answer(request)]
         self.tests.want(name, found == wanted, (found, wanted))
-        self.beside += self.is_hidden
+        self.beside += self.is_hidden and reasons is REASONS
 
-    def note(self, name: str, error: Exception) -> None:
-        reason = next((it for it in REASONS if it in str(error)), None)
+    def note(self, name: str, error: Exception, reasons: tuple[str, ...] = REASONS) -> None:
+        reason = next((it for it in reasons if it in str(error)), None)
         self.tests.want(name, reason is not None, error)
         if reason:
             self.refused[reason] += 1
@@ -185,6 +216,11 @@ class Raw(str):
     """A text of JSON that stands for what it says."""
 
 
+def asked(request: Request, texts: tuple[str, str]) -> dict[str, object]:
+    """What a request has beside its filter."""
+    return {"sort": Raw(texts[1]), "skip": request.skip, "limit": request.limit}
+
+
 def main() -> int:
     import bsonfind._ask.requests as requests
 
@@ -192,10 +228,10 @@ def main() -> int:
     requests.text_of = lambda value, *uuids: str(value) if isinstance(value, Raw) else plain(value, *uuids)
     of = requests.Request.of.__func__
 
-    def raw_of(cls, filter=None, sort=None, skip=0, limit=0, *uuids):  # noqa: ANN001, ANN002, ANN202
+    def raw_of(cls, filter=None, sort=None, skip=0, limit=0, uuids="standard"):  # noqa: ANN001, ANN202
         if isinstance(filter, Raw):
-            return requests.Request(str(filter), str(sort), skip, limit)
-        return of(cls, filter, sort, skip, limit, *uuids)
+            return requests.Request(str(filter), "{}" if sort is None else str(sort), skip, limit)
+        return of(cls, filter, sort, skip, limit, uuids)
 
     requests.Request.of = classmethod(raw_of)
     with tempfile.TemporaryDirectory() as room:

@@ -1,0 +1,135 @@
+#!/usr/bin/env python3
+"""Compares `bsonwide find` over random dumps of all types with a model: whole answers, by an index, by pages, and over damaged dumps.
+
+    tests/wide/finds.py [PROGRAM [DUMPS [SEED]]]
+
+The program is `bsonwide`. The model compares all numbers exactly, as MongoDB does. What is found must be the lines of `bsonwide dump` at
+the places of the model's answer. A query is refused for its types only where it names some of the four types of numbers.
+"""
+
+import random
+import re
+import subprocess
+import sys
+import tempfile
+from pathlib import Path
+
+sys.path[:0] = [str(Path(__file__).resolve().parents[1]), str(Path(__file__).resolve().parents[2] / "python")]
+
+from model.answers import BadFilter, Dump, Request, Value, check_filter, path_fault, sort_pairs
+from support import PROGRAM as BUILT
+from support import Tests
+from questions import WideInputs
+
+PROGRAM = str(Path(sys.argv[1]).resolve()) if len(sys.argv) > 1 else str(BUILT.with_name("bsonwide"))
+DUMPS = int(sys.argv[2]) if len(sys.argv) > 2 else 40
+SEED = int(sys.argv[3]) if len(sys.argv) > 3 else 75
+REQUESTS = 20
+
+TYPES = "bsonwide: query: the types of numbers are not told apart here\n"
+COUNTS = re.compile(r"([0-9]+) documents, (end|more)(?:, token (\S+))?\n")
+NUMBERS = {"double": 1, "int": 16, "long": 18, "decimal": 19}
+
+
+def named_types(value: Value) -> bool:
+    """Whether a `$type` anywhere in a query names some of the four types of numbers, but not all."""
+    if value.kind == "object":
+        return any((name == "$type" and is_some(it)) or named_types(it) for name, it in value.of)
+    return value.kind == "array" and any(map(named_types, value.of))
+
+
+def is_some(operand: Value) -> bool:
+    members = [it.of for it in (operand.of if operand.kind == "array" else [operand])]
+    found = [name for name, number in NUMBERS.items() if name in members or number in members or "number" in members]
+    return 0 < len(found) < 4
+
+
+class Finding:
+    """The comparison of one dump after the other with the model."""
+
+    def __init__(self, rng: random.Random, room: str) -> None:
+        self.rng, self.tests, self.room = rng, Tests(), Path(room)
+        self.inputs = WideInputs(rng)
+        self.refused = 0
+
+    def run(self, *words: str) -> tuple[int, list[str], str]:
+        """The status, the lines of standard output, and standard error."""
+        ran = subprocess.run([PROGRAM, *words], cwd=self.room, capture_output=True, check=False, timeout=60)
+        return ran.returncode, ran.stdout.decode().splitlines(keepends=True), ran.stderr.decode()
+
+    def find_in_dump(self, number: int) -> None:
+        """Asks one dump many times, and once when it is damaged."""
+        model = Dump(self.inputs.documents())
+        (self.room / "dump.bson").write_bytes(model.bytes)
+        status, lines, _ = self.run("dump", "dump.bson")
+        self.tests.want(f"dump {number}", status == 0 and len(lines) == len(model.documents), status)
+        for _ in range(REQUESTS):
+            self.ask(number, model, lines)
+        self.damage(number, model)
+
+    def ask(self, number: int, model: Dump, lines: list[str]) -> None:
+        query, sort = self.inputs.filter(), self.inputs.sort()
+        request = Request(query, sort, self.rng.choice([0, 0, 0, 1, 2]), self.rng.choice([0, 0, 0, 1, 5]))
+        words = ["--query", self.inputs.text(query), "--sort", self.inputs.text(sort), "--skip", str(request.skip), "--limit", str(request.limit)]
+        index = self.inputs.path()
+        if self.rng.random() < 0.3 and not path_fault(index):
+            words += ["--index", index]
+        name = f"dump {number}, {words}"
+        status, found, said = self.run("find", "dump.bson", *words)
+        try:
+            check_filter(query)
+            is_good = sort_pairs(sort) is not None
+        except BadFilter:
+            is_good = False
+        if not is_good:
+            self.tests.want(name, (status, found) == (1, []) and said.startswith("bsonwide: ") and said.count("\n") == 1, (status, said))
+        elif said == TYPES:
+            self.refused += 1
+            self.tests.want(name, (status, found) == (1, []) and named_types(query), status)
+        else:
+            wanted = [lines[place] for place in model.answer(request)]
+            counts = COUNTS.fullmatch(said)
+            self.tests.want(name, status == 0 and found == wanted and counts is not None and counts[1] == str(len(wanted)), (status, said, found, wanted))
+            self.pages(name, words, wanted)
+
+    def pages(self, name: str, words: list[str], wanted: list[str]) -> None:
+        """The pages of an answer, joined, are the answer."""
+        size, joined, token, more = self.rng.randrange(1, 4), [], [], "more"
+        while more == "more":
+            status, found, said = self.run("find", "dump.bson", *words, "--batch", str(size), *token)
+            counts = COUNTS.fullmatch(said)
+            if status or counts is None:
+                joined = [said]
+                break
+            joined += found
+            more, token = counts[2], ["--after", counts[3]] if counts[3] else []
+        self.tests.want(f"{name}: pages of {size}", joined == wanted, (joined, wanted))
+
+    def damage(self, number: int, model: Dump) -> None:
+        """Of a damaged dump nothing is printed but its first fault, whatever the query matches."""
+        data = bytearray(model.bytes)
+        if not data:
+            return
+        data[self.rng.randrange(len(data))] ^= 1 << self.rng.randrange(8)
+        (self.room / "bad.bson").write_bytes(data)
+        status, faults, _ = self.run("check", "bad.bson")
+        if status == 0:
+            return
+        wanted = f"bsonwide: {faults[0]}"
+        for query in ("{}", '{"_id":"no such id"}', '{"a":{"$gt":1.5}}'):
+            ran = self.run("find", "bad.bson", "--query", query)
+            self.tests.want(f"dump {number}, damaged, {query}", ran == (1, [], wanted), (ran, wanted))
+
+
+def main() -> int:
+    with tempfile.TemporaryDirectory() as room:
+        finding = Finding(random.Random(SEED), room)
+        for number in range(DUMPS):
+            finding.find_in_dump(number)
+    print(f"refused {finding.refused} times for types of numbers")
+    print(f"{finding.tests.passed} passed, {finding.tests.failed} failed")
+    return int(finding.tests.failed > 0)
+
+
+if __name__ == "__main__":
+    sys.exit(main())
