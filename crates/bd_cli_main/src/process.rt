@@ -22,7 +22,9 @@ type Waiting = RefCell<OutputBuffer<SystemOutput<Stdout>>>;
 type StandardOutput<'a> = SystemOutput<BufferedOutput<'a, SystemOutput<Stdout>>>;
 
 /// Standard error, before whose messages the buffer is flushed.
-type StandardError<'a> = SystemOutput<FlushingError<'a, Stderr, SystemOutput<Stdout>>>;
+type StandardError<'a> = SystemOutput<
+    FlushingError<'a, SystemOutput<Stderr>, SystemOutput<Stdout>>,
+>;
 
 /// Runs the command in the process's arguments, up to the last byte of standard output, and returns the exit status. A loss that
 /// the run did not notice is reported here; nothing else was reported then.
@@ -41,7 +43,7 @@ fn outputs<'a>(
     rt: &HostRuntime,
     output_buffer: &'a Waiting,
 ) -> (StandardOutput<'a>, StandardError<'a>) {
-    let writer = rt.stderr();
+    let writer = SystemOutput::new(rt.stderr());
     let out = SystemOutput::new(BufferedOutput { output_buffer });
     let err = SystemOutput::new(FlushingError {
         writer,
@@ -124,17 +126,16 @@ fn run_over<P: Program, F: Read + Drop>(
 ) -> Status {
     let alloc = rt.alloc();
     let file = FlushingInput {
-        reader,
+        reader: SystemInput::new(reader),
         output_buffer,
     };
     let Ok(file) = BufReader::with_capacity(alloc, program.block(command), file) else {
         return refuse(rt, program, &WordsFault::NoMemory, output_buffer);
     };
     let mut file = BufferedInput::new(file);
-    let reader = rt.reader();
     // They are read in blocks anyway.
     let mut commands = SystemInput::new(FlushingInput {
-        reader,
+        reader: SystemInput::new(rt.reader()),
         output_buffer,
     });
     let (mut out, mut err) = outputs(rt, output_buffer);

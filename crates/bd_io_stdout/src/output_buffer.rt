@@ -12,7 +12,7 @@ ghost use Rattle.std.specs.Io.{WritesAtMost};
 ghost use Rattle.std.specs.Io.KnownBytes.{WriteAppends};
 ghost use Rattle.bd_io_stdout.specs.declared.output_buffer.WriteState.TheVariants.{Intact};
 
-use bd_io_device::{DeviceFault, Output, write_all};
+use bd_io_device::{DeviceFault, Input, Output, write_all};
 use std::alloc::Global;
 use std::cell::RefCell;
 use std::io;
@@ -57,9 +57,9 @@ impl<D: Output + Drop> Model for OutputBuffer<D> {
 }
 
 impl<D: Output + Drop> OutputBuffer<D> {
-    ghost use Rattle.std.specs.Prelude.{◌++◌, IsErr, OnErr, OnOk, false, true};
-    ghost use Rattle.std.specs.Io.{ReadsAtMost, WritesAtMost};
-    ghost use Rattle.std.specs.Io.KnownBytes.{ReadConsumes, WriteAppends};
+    ghost use Rattle.std.specs.Prelude.{◌++◌, ◌≤◌, IsErr, OnErr, OnOk, false, true};
+    ghost use Rattle.std.specs.Io.KnownBytes.{ReadConsumes};
+    ghost use Rattle.bd_io_device.specs.Devices.{after_more};
     ghost use Rattle.bd_io_stdout.specs.OutputBuffer.{WriteFails};
     ghost use Rattle.bd_io_stdout.specs.OutputBuffer.{Buffers, HandsOn};
     ghost use Rattle.bd_io_stdout.specs.declared.output_buffer.WriteState.TheVariants.{Lost, Reported};
@@ -151,38 +151,52 @@ impl<D: Output + Drop> OutputBuffer<D> {
         taken
     }
 
-    /// Reads after the buffer was flushed. After a loss it fails without reading, since a read could wait for input that
-    /// serves no one.
+    /// Reads after the buffer was flushed: one read, whose result it is. After a loss it fails without reading, since a read could
+    /// wait for input that serves no one.
     #[tactic(auto, using(crate::proofs::OutputBufferLemmas::hands_none))]
-    fn read_after<R: Read>(&mut self, reader: &mut R, buffer: &mut [u8]) -> io::Result<usize>
+    fn read_after<R: Input>(
+        &mut self,
+        reader: &mut R,
+        buffer: &mut [u8],
+    ) -> Result<usize, DeviceFault>
         ensures handed { HandsOn D.Output self.old self.new }
         ensures empty { self.new.waiting ≡ [] }
         ensures lost { self.new.write_state ≢ Intact →
             IsErr result × (reader.new ≡ reader.old) × (buffer.new ≡ buffer.old) }
-        ensures bound { ReadsAtMost result buffer.new }
+        ensures within { IfOk result (λ n. n ≤ length buffer.new) }
         ensures bytes { ReadConsumes
-            (R.remaining reader.old) (R.remaining reader.new) result buffer.new }
+            (R.state reader.old).remaining (R.state reader.new).remaining result buffer.new }
+        ensures called { self.new.write_state ≡ Intact →
+            (R.state reader.new).calls ≡ after_more (R.state reader.old).calls 1 }
+        ensures no_failure { OnOk result
+            ((R.state reader.new).failures ≡ (R.state reader.old).failures) }
+        ensures failed { OnErr result (self.new.write_state ≡ Intact →
+            (R.state reader.new).failures ≡ after_more (R.state reader.old).failures 1) }
     {
         if self.hand_on() != WriteState::Intact {
-            return Err(refusal());
+            return Err(DeviceFault);
         }
         reader.read(buffer)
     }
 
-    /// Writes to another writer after the buffer was flushed. It fails and writes nothing while a loss is unreported, so that
-    /// no count is printed of lines that did not arrive.
+    /// Writes to another device after the buffer was flushed: one write, whose result it is. It fails and writes nothing while a
+    /// loss is unreported, so that no count is printed of lines that did not arrive.
     #[tactic(auto, using(crate::proofs::OutputBufferLemmas::hands_none))]
-    fn write_after<E: Write>(&mut self, writer: &mut E, bytes: &[u8]) -> io::Result<usize>
+    fn write_after<E: Output>(&mut self, writer: &mut E, bytes: &[u8]) -> Result<usize, DeviceFault>
         ensures handed { HandsOn D.Output self.old self.new }
         ensures empty { self.new.waiting ≡ [] }
         ensures unreported { self.new.write_state ≡ Lost →
             IsErr result × (writer.new ≡ writer.old) }
-        ensures bound { WritesAtMost result bytes.now }
+        ensures within { IfOk result (λ n. n ≤ length bytes.now) }
         ensures bytes { WriteAppends
-            (E.contents writer.old) (E.contents writer.new) result bytes.now }
+            (E.state writer.old).contents (E.state writer.new).contents result bytes.now }
+        ensures called { self.new.write_state ≢ Lost →
+            (E.state writer.new).calls ≡ after_more (E.state writer.old).calls 1 }
+        ensures failed { OnErr result (self.new.write_state ≢ Lost →
+            (E.state writer.new).failures ≡ after_more (E.state writer.old).failures 1) }
     {
         if self.hand_on() == WriteState::Lost {
-            return Err(refusal());
+            return Err(DeviceFault);
         }
         writer.write(bytes)
     }
@@ -233,18 +247,21 @@ impl<D: Output + Drop> Write for BufferedOutput<'_, D> {
 
 /// An input: the buffer is flushed before a read. After a loss a read fails without a system call.
 #[derive(Drop)]
-pub struct FlushingInput<'a, R: Read + Drop, D: Output + Drop> {
+pub struct FlushingInput<'a, R: Input + Drop, D: Output + Drop> {
     pub reader: R,
     pub output_buffer: &'a RefCell<OutputBuffer<D>>,
 }
 
-impl<R: Read + Drop, D: Output + Drop> Read for FlushingInput<'_, R, D> {
+impl<R: Input + Drop, D: Output + Drop> Read for FlushingInput<'_, R, D> {
     /// The bytes are those of the reader.
-    ghost remaining = { λ s. R.remaining s.reader };
+    ghost remaining = { λ s. (R.state s.reader).remaining };
 
     fn read(&mut self, buffer: &mut [u8]) -> io::Result<usize> {
-        match self.output_buffer.try_borrow_mut() {
-            Ok(mut output_buffer) => output_buffer.read_after(&mut self.reader, buffer),
+        let Ok(mut output_buffer) = self.output_buffer.try_borrow_mut() else {
+            return Err(refusal());
+        };
+        match output_buffer.read_after(&mut self.reader, buffer) {
+            Ok(n) => Ok(n),
             Err(_) => Err(refusal()),
         }
     }
@@ -252,18 +269,21 @@ impl<R: Read + Drop, D: Output + Drop> Read for FlushingInput<'_, R, D> {
 
 /// Standard error: the buffer is flushed before a write. A write fails while a loss is unreported.
 #[derive(Drop)]
-pub struct FlushingError<'a, E: Write + Drop, D: Output + Drop> {
+pub struct FlushingError<'a, E: Output + Drop, D: Output + Drop> {
     pub writer: E,
     pub output_buffer: &'a RefCell<OutputBuffer<D>>,
 }
 
-impl<E: Write + Drop, D: Output + Drop> Write for FlushingError<'_, E, D> {
+impl<E: Output + Drop, D: Output + Drop> Write for FlushingError<'_, E, D> {
     /// The bytes are those of the writer.
-    ghost contents = { λ s. E.contents s.writer };
+    ghost contents = { λ s. (E.state s.writer).contents };
 
     fn write(&mut self, bytes: &[u8]) -> io::Result<usize> {
-        match self.output_buffer.try_borrow_mut() {
-            Ok(mut output_buffer) => output_buffer.write_after(&mut self.writer, bytes),
+        let Ok(mut output_buffer) = self.output_buffer.try_borrow_mut() else {
+            return Err(refusal());
+        };
+        match output_buffer.write_after(&mut self.writer, bytes) {
+            Ok(n) => Ok(n),
             Err(_) => Err(refusal()),
         }
     }

@@ -1,5 +1,5 @@
 //! The buffer of standard output, which is flushed before a read, before a message, and at the end.
-use bd_io_device::{SystemOutput, write_all};
+use bd_io_device::{SystemInput, SystemOutput, write_all};
 use bd_io_stdout::{
     BufferedOutput, FlushingError, FlushingInput, OutputBuffer, WriteState, hand_on,
 };
@@ -61,11 +61,11 @@ fn nothing_waits_before_a_read_or_a_message(rt: HostRuntime) {
     };
     let mut out = SystemOutput::new(BufferedOutput { output_buffer });
     let mut input = FlushingInput {
-        reader: noting,
+        reader: SystemInput::new(noting),
         output_buffer,
     };
     let mut err = FlushingError {
-        writer: noting,
+        writer: SystemOutput::new(noting),
         output_buffer,
     };
     assert!(rt; write_all(&mut out, b"a line\n") == Ok(()) && writes.get() == 0);
