@@ -34,10 +34,11 @@ look 'types of tools' mypy --strict --cache-dir /dev/null tools/*.py
 need=pyflakes3
 command -v "$need" >/dev/null || need=pyflakes
 look 'names of python' "$need" python
-look 'names of tools, tests, bench' "$need" tools tests bench
+look 'names of tools, tests, bench, examples' "$need" tools tests bench examples
 need=shellcheck
 # shellcheck disable=SC2046 # no script has a space in its name
 look 'scripts' shellcheck $(grep -rlE '^#!/bin/(sh|bash)' .ci packaging tests tools) completions/*.bash
+look 'scripts of examples' shellcheck -s bash examples/*.sh
 need='man'
 for manual in man/*.1; do
 	look "$manual" page "$manual"

@@ -1,6 +1,6 @@
 #!/usr/bin/env python3
 """Runs what the documents show, with ./bsonfind, ./bsonwide and the package: the first screen of README.md, its first table and its
-script, the recipes of docs/GUIDE.md and docs/LARGE.md, the examples of the man pages.
+script, the recipes of docs/GUIDE.md and docs/LARGE.md with the scripts of examples, the examples of the man pages.
 
 usage: tests/docs/guide.py [PAGE..]     Of these pages alone, such as README.md. The last line is 'N passed, M failed'. It needs jq;
                                         without it nothing is run. Recipes with pv, node and pandas are run where these are there.
@@ -171,7 +171,7 @@ def lacks(command: str, room: Path) -> str | None:
     """What a command needs and is not there."""
     if (program := OPTIONAL.search(command)) and not shutil.which(program[1]):
         return program[1]
-    for script in re.findall(r"\b\w+\.py\b", command):
+    for script in re.findall(r"[\w/]+\.py\b", command):
         if (room / script).is_file() and (module := IMPORTS.search((room / script).read_text(encoding="utf-8"))):
             if subprocess.run(["python3", "-c", f"import {module[1]}"], stderr=subprocess.DEVNULL).returncode:
                 return module[1]

@@ -3,8 +3,9 @@
 
 usage: tests/package/engines.py [MEGABYTES]     The last line is 'N passed, M failed'. Without a number the dump has 20 megabytes.
 
-The scripts are those of docs/LARGE.md. What they print must be what one run over the whole dump prints, byte for byte. The dump has
-values of mixed kinds with many ties; the request has a filter, a sort, a skip and a limit. Machines are processes of this one:
+The scripts are those of examples, as docs/LARGE.md shows them. What they print must be what one run over the whole dump prints, byte for
+byte. The dump has values of mixed kinds with many ties; the request has a filter, a sort, a skip and a limit. Machines are processes of
+this one:
 
 - Dask has a scheduler and three workers. One is killed while it asks its second part. Then another one no longer answers.
 - GNU parallel reaches three sshd, on 127.0.0.2, 127.0.0.3 and 127.0.0.4. One is killed while it asks its second part, and is back.
@@ -36,7 +37,6 @@ from typing import NamedTuple, NoReturn
 sys.path[:0] = [str(Path(__file__).resolve().parents[1]), str(Path(__file__).resolve().parents[2] / "python")]
 
 from bsonfind import plan
-from docs.guide import recipes
 from support import PROGRAM, ROOT, Tests
 
 # How many seconds anything may take.
@@ -498,11 +498,8 @@ def lose_all(bench: Bench, hosts: Hosts, sort: str) -> None:
 
 def run_all(tests: Tests, room: Path, size: int) -> int:
     """Asks by each engine, and gives how many were skipped."""
-    scripts = room / "scripts"
-    scripts.mkdir()
-    recipes((ROOT / "docs/LARGE.md").read_text(encoding="utf-8"), scripts)
     dump = make_dump(room / "mixed.bson", size)
-    bench = Bench(tests, room, scripts, dump, make_faulty(dump))
+    bench = Bench(tests, room, ROOT / "examples", dump, make_faulty(dump))
     skipped = 0
     for name, ask in {"Dask": ask_by_dask, "GNU parallel": ask_by_parallel}.items():
         try:
