@@ -1,6 +1,7 @@
 #!/usr/bin/env python3
-"""Runs what the documents show, with ./bsonfind, ./bsonwide and the package: the first screen of README.md, its first table and its
-script, the recipes of docs/GUIDE.md and docs/LARGE.md with the scripts of examples, the examples of the man pages.
+"""Runs what the documents show, with ./bsonfind, ./bsonwide and the package: the first screen of README.md, its first two tables and its
+script (tests/package has what it says of installing), the recipes of docs/GUIDE.md and docs/LARGE.md with the scripts of examples, the
+examples of the man pages.
 
 usage: tests/docs/guide.py [PAGE..]     Of these pages alone, such as README.md. The last line is 'N passed, M failed'. It needs jq;
                                         without it nothing is run. Recipes with pv, node and pandas are run where these are there.
@@ -221,22 +222,27 @@ def backup(room: Path, is_damaged: bool) -> None:
     (room / "mongodump.log").write_text(lines, encoding="utf-8")
     for name in ("monday", "tuesday"):
         shutil.copytree(room / "backup", room / name)
-    shutil.copyfile(room / "examples/shop.bson", room / "orders.bson")
+    for name in ("orders", "f", "c"):
+        shutil.copyfile(room / "examples/shop.bson", room / f"{name}.bson")
     shutil.copyfile(room / "examples/people.bson", room / "people.bson")
     shutil.copyfile(room / "examples/backup.archive", room / "night.archive")
     (room / "lines.jsonl").write_text('{"a":1}\n', encoding="utf-8")
 
 
 def of_readme(text: str, counts: Counts) -> None:
-    """Runs the commands of its first table over a good backup, and its script."""
-    table = text[text.index("| To | Type |") :].partition("\n\n")[0]
+    """Runs the commands of its first two tables over a good backup, with a query for Q and a sort for S, and its script."""
+    table, known = (text[text.index(head) :].partition("\n\n")[0] for head in ("| To | Type |", "| You know | Here |"))
+    here = re.findall(r"^\|.*\| `(bsonkit [^`]*)`", known, re.MULTILINE)
+    counts.want(len(here) >= 3, "the table of what a reader knows has commands", known)
+    likewise = [Step(re.sub(r"(--(?:query|sort)) [QS]\b", r"""\1 '{"order":1}'""", it), None) for it in here]
     with tempfile.TemporaryDirectory() as folder:
         room = Path(folder, "room")
         shutil.copytree(ROOT / "examples", room / "examples")
         backup(room, is_damaged=False)
         script = re.search(r"(?:^    .*\n|^\n(?=    ))+", text[text.index("From Python:") :], re.MULTILINE)
         Path(folder, "script.py").write_text(re.sub("^    ", "", script[0].strip("\n") if script else "", flags=re.MULTILINE), encoding="utf-8")
-        run([*(Step(it, None) for it in re.findall(r"`([^`]*)` \|$", table, re.MULTILINE)), Step("python3 ../script.py", None)], room, counts)
+        steps = [Step(it, None) for it in re.findall(r"`([^`]*)` \|$", table, re.MULTILINE)]
+        run([*steps, *likewise, Step("python3 ../script.py", None)], room, counts)
 
 
 def main() -> int:

@@ -53,7 +53,7 @@ def names() -> set[str]:
     return found
 
 
-# No program calls these crates yet. The comments of their lemmas and the place of their definitions are looked at once one does.
+# Of these crates some lemmas have no comment yet, and some definitions stand inside that another crate cites: mended with their next change.
 UNCALLED = ("bd_wide_copy", "bd_wide_query", "bd_wide_rank")
 # Only these crates use them beside their own: they get a comment, or leave `inside`, with the next change of theirs.
 USED_BY_UNCALLED = (
