@@ -8,7 +8,7 @@
 
 `find`, `find_one`, `count_documents`, `distinct` and `explain` answer one request by one run, a `Session` many of one dump, and an `AsyncSession` does
 for asyncio. `plan` splits a dump of any size into parts, of which `find_parts`, `count_parts` and `check_parts` make one answer.
-`audit` checks the dumps of a backup, and `salvage` copies what is good of a damaged one. `unpack` writes the collections of an
+`to_dicts` and `to_pandas` make the rows of a table of documents. `audit` checks the dumps of a backup, and `salvage` copies what is good of a damaged one. `unpack` writes the collections of an
 archive to files; where a file is named, "ARCHIVE::db.collection" names one of them. `python3 -m bsonfind` has these and other
 commands.
 """
@@ -27,6 +27,7 @@ if TYPE_CHECKING:
         find as find,
         find_one as find_one,
     )
+    from ._ask.frames import to_dicts as to_dicts, to_pandas as to_pandas
     from ._ask.kept import prepare as prepare
     from ._ask.merge import Check as Check, check_parts as check_parts, count_parts as count_parts, find_parts as find_parts
     from ._ask.sessions import Cursor as Cursor, Session as Session
@@ -60,6 +61,7 @@ if TYPE_CHECKING:
 _MODULES = {
     "_ask.aio": ["AsyncCursor", "AsyncSession"],
     "_ask.answers": ["Answer", "count_documents", "distinct", "explain", "find", "find_one"],
+    "_ask.frames": ["to_dicts", "to_pandas"],
     "_ask.kept": ["prepare"],
     "_ask.merge": ["Check", "check_parts", "count_parts", "find_parts"],
     "_ask.sessions": ["Cursor", "Session"],
@@ -105,5 +107,5 @@ __all__ = [
     "CommandError", "Cursor", "CursorStateError", "DumpError", "Fault", "FileError", "FileState", "LeftOut", "ObjectId",
     "OtherProcessError", "Part", "PartError", "ProgramError", "Report", "Salvaged", "Session", "SessionEndedError", "TimedOutError",
     "UnpackError", "Unpacked", "audit", "check_parts", "count_documents", "count_parts", "distinct", "explain", "find", "find_one",
-    "find_parts", "plan", "prepare", "salvage", "unpack",
+    "find_parts", "plan", "prepare", "salvage", "to_dicts", "to_pandas", "unpack",
 ]  # fmt: skip

@@ -54,6 +54,15 @@ class DumpError(BsonfindError):
         super().__init__(text, fault)
         self.text, self.fault = text, fault
 
+    @classmethod
+    def at(cls, fault: Fault) -> DumpError:
+        """The error of a dump that has this fault."""
+        return cls(str(fault), fault)
+
+    def moved(self, documents: int, offset: int) -> DumpError:
+        """The same where this many documents and bytes are before, as in the whole of which a run read a part."""
+        return DumpError.at(self.fault.moved(documents, offset)) if self.fault else self
+
     @property
     def is_finding(self) -> bool:
         """Whether the dump was read and something in it is wrong; else it is missing, or was not read."""
@@ -61,6 +70,16 @@ class DumpError(BsonfindError):
 
     def __str__(self) -> str:
         return self.text
+
+
+def why(error: BaseException) -> str:
+    """What an error says; of one of the system without the name of a file."""
+    return str(getattr(error, "strerror", None) or error)
+
+
+def is_finding(error: BaseException) -> bool:
+    """Whether it is one of a dump that was read, in which something is wrong."""
+    return isinstance(error, DumpError) and error.is_finding
 
 
 class TimedOutError(BsonfindError, TimeoutError):

@@ -31,6 +31,8 @@ from bsonfind import (
     plan,
     prepare,
     salvage,
+    to_dicts,
+    to_pandas,
     unpack,
 )
 
@@ -66,6 +68,7 @@ BAD: Dict[str, List[Any]] = {
     "only": [5, "shop.orders", [], [5]],
     "digits": [5, "5", "g" * 24],
     "key": [5, None, "", ["a"]],
+    "documents": [5, None, "ab", {"a": 1}, [5], ["ab"], [{"a": 1}, None]],
 }
 # Parameters of which one value is as good as another: the part keeps what plan noted of its file.
 FREE = ("self", "state")
@@ -97,6 +100,8 @@ class Refusals(Room):
         yield prepare, lambda **it: prepare(**{"path": PEOPLE, "copy": self.room / "copy", **program, **it})
         yield unpack, lambda **it: unpack(**{"archive": ROOT / "examples/backup.archive", "directory": self.room / "out", **it})
         yield ObjectId, ObjectId
+        yield to_dicts, to_dicts
+        yield to_pandas, to_pandas
         yield Part, lambda **it: Part(**{"path": "a", "offset": 0, "length": 5, "first": 0, **it})
         yield Session, lambda path=PEOPLE, **it: Session(path, **{**program, **it}).close()
         yield AsyncSession, lambda path=PEOPLE, **it: asyncio.run(AsyncSession(path, **{**program, **it}).open())
@@ -162,9 +167,8 @@ class Refusals(Room):
         self.assertEqual(len(found), 49)
 
     def test_documents_as_they_are(self) -> None:
-        """These are not to be had where documents come as lines."""
-        with self.assertRaises(ArgumentError):
-            find_parts(plan(PEOPLE), decode="bson", program=PROGRAM)
+        found = find_parts(plan(PEOPLE, 20_000), decode="bson", program=PROGRAM)
+        self.assertEqual((len(found), b"".join(found)), (500, PEOPLE.read_bytes()))
 
     def test_without_pymongo(self) -> None:
         with mock.patch.dict(sys.modules, {"bson": None}), self.assertRaisesRegex(ArgumentError, "pymongo"):

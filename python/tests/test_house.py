@@ -69,17 +69,39 @@ DECIDES = {
     "_backup/compare._by_key": "documents are the same if their bytes are: that is what the command says",
     "_backup/compare._compare_sorted": "counts them",
     "_backup/count.Count._take_by": "counts documents by the bytes of their values; which documents match is the program's answer",
+    "_backup/count.Count.merge": "adds the counts of documents that are not the same",
     "_backup/count.Count.rows": "values are one if their numbers or their texts are equal: that is what the command says",
     "_backup/ids._Finding.look_at": "an id is found if the bytes of a document's id are the same, or its number is: that is what the command says",
     "_backup/info._ordered": "puts collections in the order of their names",
     "_backup/search.Search._matches": "a text is found where its bytes, or a pattern, are in a value: that is what the command says",
     "_backup/search.Search._matches_value": "the same of an id and of a UUID",
     "_backup/reports.Report.compare": "compares a count with that in the log",
-    "_backup/schema.Schema._look_at": "counts the types of values, and keeps the least and the greatest: that is what the command says",
+    "_backup/schema._Looking.look": "counts the types of values, and keeps the least and the greatest: that is what the command says",
     "_backup/sums.Sum.add": "adds numbers, exactly: that is what the command says",
     "_backup/texts.order_of": "sorts rows of equal counts, and the values of a schema",
     "_dumps/originals.numbers_in": "the numbers of the documents that the program found, each of which it has as its first field",
     "_dumps/framing.walk": "the lengths of documents, before a run reads them",
+}
+# Each clause that catches any error, and what becomes of that: none is lost.
+WIDE = {
+    "_ask/aio.AsyncSession.open": "ends the session, and raises it",
+    "_ask/answers.Answer._read_on": "ends the timer, and raises it",
+    "_ask/connections.Connection.__init__": "ends the run, and raises it",
+    "_ask/connections.Connection._reply": "ends the run, and raises it",
+    "_ask/decoding.Texts.give": "goes on to the next document, and raises it",
+    "_ask/loops.Loop.do": "gives it to the plan, which raises what comes of it",
+    "_ask/merge._Asking._run": "ends all runs, and raises it",
+    "_ask/merge._Asking.each": "ends all runs, and raises it, or the error of the first part that failed",
+    "_ask/plans.now": "gives it to the plan, which raises what comes of it",
+    "_ask/questions.Questions.__init__": "closes what was opened, and raises it",
+    "_ask/steps.Reading.read_on": "keeps the batch for the next call, and raises it",
+    "_backup/audit._check_all": "ends all runs, and raises it",
+    "_backup/grep._Reading.run": "hands it to whoever reads what was found, where it is raised",
+    "_command/shell.run_command": "reports it, with a status that is not 0",
+    "_dumps/originals.Spool.original": "closes the file, and raises it",
+    "_run/processes.Feeder.run": "ends the run, and is raised where that is waited for",
+    "_run/processes.Run._feed": "ends the run, and raises it",
+    "_run/processes.Run._start": "closes the file, and raises it",
 }
 
 
@@ -147,6 +169,20 @@ class House(unittest.TestCase):
             ["bsonfind", "bsonfind._command", "bsonfind._command.program", "bsonfind._run", "bsonfind._run.program"],
             run.stderr,
         )
+
+    def test_errors(self) -> None:
+        """A clause that catches any error is listed with what becomes of it; one that does nothing says why."""
+        wide: Set[str] = set()
+        for name, tree in modules().items():
+            lines = (SOURCES / f"{name}.py").read_text(encoding="utf-8").splitlines()
+            for place, function in functions(name, tree):
+                for clause in (it for it in ast.walk(function) if isinstance(it, ast.ExceptHandler)):
+                    kinds = {it.id for it in ast.walk(clause.type) if isinstance(it, ast.Name)} if clause.type else {"BaseException"}
+                    if kinds & {"Exception", "BaseException"}:
+                        wide.add(place)
+                    if len(clause.body) == 1 and isinstance(clause.body[0], (ast.Pass, ast.Continue)):
+                        self.assertIn("  # ", lines[clause.body[0].lineno - 1], f"{name}:{clause.lineno}")
+        self.assertEqual(wide, set(WIDE))
 
     def test_what_is_read_of_programs(self) -> None:
         """Each place that reads what a program printed is listed, with what it does with that."""

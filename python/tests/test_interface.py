@@ -63,8 +63,7 @@ class Types(unittest.TestCase):
             with self.subTest(function.__qualname__):
                 overloads = [inspect.signature(it) for it in typing.get_overloads(function)]
                 kinds = [(it.parameters["decode"].annotation, it.return_annotation) for it in overloads]
-                raw = 'Literal["bytes"]' if function is find_parts else "Raw"
-                documents = {"Dicts": "dict[str, Any]", raw: "bytes", "Callable[[bytes], T]": "T"}
+                documents = {"Dicts": "dict[str, Any]", "Raw": "bytes", "Callable[[bytes], T]": "T"}
                 wanted = [(kind.replace('"', "'"), returned.format(it)) for kind, it in documents.items()]
                 self.assertEqual([(kind.replace('"', "'"), it) for kind, it in kinds], wanted)
                 own = inspect.signature(function).parameters

@@ -8,7 +8,7 @@ import types
 import unittest
 from unittest import mock
 
-from bsonfind import CommandError, DumpError, Fault, ProgramError
+from bsonfind import ArgumentError, CommandError, DumpError, Fault, ProgramError
 from bsonfind._ask.replies import documents_in, read_batch, read_reply
 from bsonfind._ask.requests import Request
 from bsonfind._faults import read_fault
@@ -45,6 +45,17 @@ class Requests(unittest.TestCase):
         bson.json_util = json_util
         with mock.patch.dict(sys.modules, {"bson": bson, "bson.json_util": json_util}):
             self.assertEqual(Request.of({"a": key}).filter, '{"a":{"$regex":["5","canonical"]}}')
+
+
+    def test_code_of_pymongo(self) -> None:
+        """It is a text with a scope, and not asked for as a text."""
+
+        class Code(str):
+            scope = None
+
+        for filter in ({"a": Code("f()")}, {"a": {"$in": [1, Code("f()")]}}):
+            with self.assertRaisesRegex(ArgumentError, r'{"\$code": "f\(\)"}'):
+                Request.of(filter)
 
 
 class Told(unittest.TestCase):

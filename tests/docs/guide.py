@@ -39,7 +39,7 @@ FAULT = re.compile(r"\b(?:bsonfind|bsonwide|bsonkit): |^\w+\.(?:py|sh|mjs): |, [
 # A program that a machine may not have, where a command begins with it or pipes to it.
 OPTIONAL = re.compile(r"(?:^|\| )(node|pv)\b")
 # A script that imports what a Python may not have.
-IMPORTS = re.compile(r"^import (pandas)$", re.MULTILINE)
+IMPORTS = re.compile(r"^(?:import |from bsonfind import .*\bto_)(pandas)$", re.MULTILINE)
 TOKEN = re.compile(r'(, token |"token":")A[\w+/]{59}\b')
 SCRIPTS = (".py", ".sh", ".mjs", ".jq")
 # The lines of a block, without what its commands print.

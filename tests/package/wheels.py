@@ -178,7 +178,8 @@ class Wheels(unittest.TestCase):
         text = (PACKAGE / "README.md").read_text(encoding="utf-8")
         scripts = re.findall(r"^```python\n(.*?)^```", text, re.MULTILINE | re.DOTALL)
         found = "Farid 99\nHélène 99\n"
-        wanted = (f"{found}False\nLuís\n", f"49\n{found}", "Małgorzata\n", "3 49\nHélène\n", REPORTS)
+        rows = "Farid القاهرة\nHélène Montréal\n"
+        wanted = (f"{found}False\nLuís\n", f"49\n{found}", "Małgorzata\n", rows, "3 49\nHélène\n", REPORTS)
         self.assertEqual(len(scripts), len(wanted))
         (self.room / "people.bson").write_bytes((ROOT / "examples/people.bson").read_bytes())
         (self.room / "bin").mkdir()

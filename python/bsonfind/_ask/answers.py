@@ -10,7 +10,7 @@ from .._names import File, name_of
 from .._numbers import seconds, whole
 from .._run.processes import Group, check_owner
 from . import steps
-from .decoding import Decode, Dicts, Raw, Texts, decoder, with_uuids
+from .decoding import Decode, Dicts, Raw, Texts, decoder, is_of_bytes, with_uuids
 from .distinct import Distinct, Values
 from .lines import Lines
 from .plans import now
@@ -132,13 +132,14 @@ def find(
     `page` gives one page of this many documents in place of all, and `after` resumes after the documents that were given
     with this token. `batch_size`, which pymongo takes, changes nothing: documents come as they are found. `index` makes an index
     on a path, and changes no answer. `uuid_representation` says, by pymongo's names, how a `UUID` is asked for, and which values
-    are one for `decode="plain"`. Where the whole answer is not there within `timeout` seconds, that is a `TimedOutError`.
+    are one for `decode="plain"` and `"pymongo"`. Where the whole answer is not there within `timeout` seconds, that is a `TimedOutError`.
     """
     request, group = Request.of(filter, sort, skip, limit, uuid_representation), Group()
     whole("batch_size", batch_size)
     size = None if page is None else whole("page", page)
-    lines = Lines(name_of(path), request, program, is_bson=decode == "bson", size=size, index=index, after=after, group=group)
-    return Answer(lines, group, with_uuids(decode, uuid_representation), timeout)
+    made = with_uuids(decode, uuid_representation)
+    lines = Lines(name_of(path), request, program, is_bson=is_of_bytes(made), size=size, index=index, after=after, group=group)
+    return Answer(lines, group, made, timeout)
 
 
 # fmt: off

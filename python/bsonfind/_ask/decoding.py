@@ -1,4 +1,4 @@
-"""Documents as the caller asks for them, of the lines of canonical Extended JSON that the program prints."""
+"""Documents as the caller asks for them, of the lines of canonical Extended JSON that the program prints, or of their bytes."""
 
 from __future__ import annotations
 
@@ -10,13 +10,34 @@ from .replies import documents_in, junk
 from .values import Uuids, plain_document, uuids_of
 
 T = TypeVar("T")
-# What makes documents of lines by a name; each gives a dictionary for a line.
-Dicts = Literal["plain", "canonical", "dict", "json_util"]
+# What makes documents by a name; each gives a dictionary.
+Dicts = Literal["plain", "canonical", "dict", "json_util", "pymongo"]
 # What gives bytes: the line, or the document as it is in the dump.
 Raw = Literal["bytes", "bson"]
-Decode = Union[Callable[[bytes], T], Literal["plain", "canonical", "dict", "json_util", "bytes", "bson"]]
+Decode = Union[Callable[[bytes], T], Literal["plain", "canonical", "dict", "json_util", "pymongo", "bytes", "bson"]]
 # The names of canonical Extended JSON. The second one is that of earlier versions, and goes with 1.0.
 _CANONICAL = ("canonical", "dict")
+# What pymongo calls the representations of UUIDs.
+_UUIDS = {"standard": "STANDARD", "pythonLegacy": "PYTHON_LEGACY", "javaLegacy": "JAVA_LEGACY", "csharpLegacy": "CSHARP_LEGACY"}
+
+
+class Bson:
+    """Makes documents of their bytes, as pymongo does."""
+
+    def __init__(self, uuids: Uuids) -> None:
+        try:
+            from bson import binary, codec_options, decode  # type: ignore[import]
+        except ImportError:
+            raise ArgumentError('decode="pymongo" needs pymongo, which this Python has not') from None
+        self._decode, self._options = decode, codec_options.CodecOptions(uuid_representation=getattr(binary, _UUIDS[uuids]))
+
+    def __call__(self, document: bytes) -> Any:
+        return self._decode(document, self._options)
+
+
+def is_of_bytes(decode: Decode[Any]) -> bool:
+    """Whether documents are given, or made, of their bytes in the dump, and not of lines."""
+    return decode == "bson" or isinstance(decode, Bson)
 
 
 def decoder(decode: Decode[Any]) -> Callable[[bytes], Any]:
@@ -27,7 +48,8 @@ def decoder(decode: Decode[Any]) -> Callable[[bytes], Any]:
       has the last value. Until 1.0 `"dict"` is the same.
     - `"json_util"` gives what `bson.json_util.loads` of pymongo makes of the line.
     - `"bytes"` gives the line as it is, without its newline.
-    - `"bson"` gives in place of it the bytes of the document as they are in the dump; `find_parts` does not.
+    - `"bson"` gives in place of it the bytes of the document as they are in the dump.
+    - `"pymongo"` gives what pymongo makes of these bytes: its `ObjectId`, `Int64`, `Decimal128`, `Binary` and the like, see `with_uuids`.
     - A function is called with the line.
     """
     if callable(decode):
@@ -38,21 +60,21 @@ def decoder(decode: Decode[Any]) -> Callable[[bytes], Any]:
         return lambda line: plain_document(_parsed(line))
     if decode == "json_util":
         try:
-            from bson import json_util  # type: ignore[import]
+            from bson import json_util
         except ImportError:
             raise ArgumentError('decode="json_util" needs pymongo, which this Python has not') from None
         loads: Callable[[bytes], Any] = json_util.loads
         return loads
     if decode in ("bytes", "bson"):
         return bytes
-    raise ArgumentError(f'decode is "plain", "canonical", "json_util", "bytes", "bson" or a function, not {decode!r}')
+    raise ArgumentError(f'decode is "plain", "canonical", "pymongo", "json_util", "bytes", "bson" or a function, not {decode!r}')
 
 
 def with_uuids(decode: Decode[Any], uuids: Uuids) -> Decode[Any]:
     """What decodes documents in which UUIDs are of a representation."""
     if uuids_of(uuids) != "standard" and decode == "plain":
         return lambda line: plain_document(_parsed(line), uuids)
-    return decode
+    return Bson(uuids) if decode == "pymongo" else decode
 
 
 def _parsed(line: bytes) -> dict[str, Any]:
@@ -64,12 +86,6 @@ def _parsed(line: bytes) -> dict[str, Any]:
     if not isinstance(document, dict):
         raise junk(line)
     return document
-
-
-def refuse_bson(decode: Decode[Any]) -> None:
-    """Refuses what is asked for where documents come as lines alone."""
-    if decode == "bson":
-        raise ArgumentError('decode="bson" is for find, find_one and sessions; here documents come as lines')
 
 
 class Texts(Generic[T]):

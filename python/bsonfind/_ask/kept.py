@@ -7,12 +7,12 @@ import os
 from contextlib import closing, contextmanager
 from dataclasses import asdict
 from pathlib import Path
-from typing import Iterator
+from typing import Any, Iterator
 
 from .._dumps.originals import Original, temporary_file
 from .._dumps.outputs import Output, refuse_names
 from .._dumps.sources import Source
-from .._errors import ArgumentError, DumpError
+from .._errors import ArgumentError, DumpError, FileError
 from .._names import File, name_of, name_of_file
 from .._run.processes import Dump, Group
 from .codes import word_of
@@ -64,28 +64,29 @@ def _prepare(source: Source, names: list[str], copy: File, codes: Codes, program
 
 def _refuse_other(name: str) -> None:
     """Refuses a file that is there and describes no copy: it would be replaced."""
-    if not os.path.lexists(name):
-        return
-    try:
-        # What is longer than any description is not read.
-        about = json.loads(Path(name).read_bytes()) if os.path.isfile(name) and os.path.getsize(name) < _PIECE << 4 else {}
-    except (OSError, ValueError, RecursionError):
-        about = {}
-    if not (isinstance(about, dict) and {"dump", "copy", "levels"} <= about.keys()):
+    if os.path.lexists(name) and not {"dump", "copy", "levels"} <= _description(name).keys():
         raise ArgumentError(f"{name} is there, and describes no copy: give the copy another name")
+
+
+def _description(name: str) -> dict[str, Any]:
+    """What a file says that describes a copy, nothing if it is none. What is longer than any description is not read."""
+    try:
+        about = json.loads(Path(name).read_bytes()) if os.path.isfile(name) and os.path.getsize(name) < _PIECE << 4 else None
+    except (ValueError, RecursionError):
+        about = None
+    except OSError as error:
+        raise FileError(error.errno, error.strerror, name) from None
+    return about if isinstance(about, dict) else {}
 
 
 @contextmanager
 def kept_copy(source: Source, copy: File) -> Iterator[tuple[Dump, Codes]]:
     """A copy that was kept, with its codes. It must be of this dump as it is now, and stay as it is while it is read."""
     name = name_of_file(copy)
-    try:
-        with open(f"{name}{_ABOUT}", encoding="utf-8") as file:
-            about = json.load(file)
-        is_known = about.get("version") == _VERSION
-    except (OSError, ValueError, RecursionError, AttributeError):
-        raise _another(name, source) from None
-    if not is_known:
+    about = _description(f"{name}{_ABOUT}")
+    if not about:
+        raise _another(name, source)
+    if about.get("version") != _VERSION:
         raise DumpError(f"{name} is no copy of this version of bsonfind: make it again")
     with Source(name, is_named=True) as kept:
         states = [it and list(it) for it in (source.state, kept.state)]

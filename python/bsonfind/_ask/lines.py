@@ -14,10 +14,7 @@ from .._errors import DumpError
 from .._names import File, name_of_file
 from .._run.processes import Dump, Group, Run
 from .._run.wide import wide_program
-from .plans import now
-from .questions import Answering, Questions
 from .requests import Request
-from .steps import FIRST_BATCH
 
 _COUNTED = re.compile(r"(\d+) documents, (end|more)(?:, token (\S+))?\n")
 # What is asked: a file by its name, one that is open, or bytes.
@@ -109,6 +106,11 @@ class Lines:
             raise (original.fault(self._program, self._group) if error.fault else None) or error from None
 
     def _by_session(self, dump: Asked, files: ExitStack) -> Batches:
+        # A session is imported where one is needed: that takes longer than the start of Python.
+        from .plans import now
+        from .questions import Answering, Questions
+        from .steps import FIRST_BATCH
+
         asked: Source | Original = dump if isinstance(dump, Source) else _original(dump, files)
         remaining = self._size
         with Questions(asked, self._program, group=self._group) as questions:

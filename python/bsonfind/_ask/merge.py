@@ -15,7 +15,7 @@ from __future__ import annotations
 from concurrent.futures import ThreadPoolExecutor
 from contextlib import closing, contextmanager
 from functools import partial
-from typing import Any, Callable, Iterable, Iterator, Literal, NamedTuple, Sequence, TypeVar, overload
+from typing import Any, Callable, Iterable, Iterator, NamedTuple, Sequence, TypeVar, overload
 
 from .._dumps.checking import checking, faults_of, finish_check
 from .._dumps.files import is_packed
@@ -26,7 +26,7 @@ from .._errors import ArgumentError, BsonfindError, DumpError, ProgramError
 from .._faults import Fault
 from .._numbers import seconds, whole
 from .._run.processes import Dump, Group
-from .decoding import Decode, Dicts, Texts, decoder, refuse_bson, with_uuids
+from .decoding import Decode, Dicts, Raw, Texts, decoder, is_of_bytes, with_uuids
 from .lines import Lines, try_request
 from .requests import Filter, Request, Sort
 from .values import Uuids
@@ -52,7 +52,7 @@ def find_parts(
 @overload
 def find_parts(
     parts: Sequence[Part], filter: Filter | None = None, *, sort: Sort | None = None, skip: int = 0, limit: int = 0,
-    workers: int = 1, map: Map | None = None, decode: Literal["bytes"], uuid_representation: Uuids = "standard",
+    workers: int = 1, map: Map | None = None, decode: Raw, uuid_representation: Uuids = "standard",
     program: str = "bsonfind", timeout: float | None = None,
 ) -> list[bytes]: ...
 @overload
@@ -81,15 +81,15 @@ def find_parts(
     Each part is asked for its own answer, what they gave is packed and joined, and asked again. A part that fails is a
     `PartError`, and at once ends the others that run in this process; so does a `timeout`, in seconds, for all of it.
     """
-    refuse_bson(decode)
-    document_of = decoder(with_uuids(decode, uuid_representation))
+    made = with_uuids(decode, uuid_representation)
+    document_of = decoder(made)
     request = Request.of(filter, sort, skip, limit, uuid_representation)
     with _Asking(program, workers, map, timeout) as asking:
         asking.try_request(request)
         packed = asking.each(parts, partial(_packed_answer, request.of_part(), program))
-        lines = _joined_answer(packed, request, program, asking.group)
-    texts = Texts(lines, document_of)
-    return [texts.give() for _ in lines]
+        found = Lines(Dump(packed), request, program, is_bson=is_of_bytes(made), group=asking.group)
+        texts = Texts(_joined(found), document_of)
+    return [texts.give() for _ in texts.texts]
 
 
 def count_parts(
@@ -214,14 +214,14 @@ def _original(part: Part, by_session: bool) -> Iterator[Original]:
         with closing(Original.of_pieces(part.pieces())) as original:
             yield original
     else:
-        with part.opened() as file:
-            yield Original(file, False, part.offset, part.offset + part.length)
+        with part.opened() as source:
+            yield Original(source.file, False, part.offset, part.offset + part.length)
 
 
-def _joined_answer(packed: list[bytes], request: Request, program: str, group: Group) -> list[bytes]:
-    """The lines of the answer over what the parts gave. A fault of that has no place in the dump."""
+def _joined(found: Lines) -> list[bytes]:
+    """The answer over what the parts gave. A fault of that has no place in the dump."""
     try:
-        return [line for batch in Lines(Dump(packed), request, program, group=group).batches() for line in batch]
+        return [document for batch in found.batches() for document in batch]
     except DumpError as error:
         if not error.fault:
             raise

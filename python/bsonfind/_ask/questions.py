@@ -4,7 +4,6 @@ from __future__ import annotations
 
 import os
 import threading
-from dataclasses import replace
 from functools import partial
 from typing import Any, Callable, ContextManager, TypeVar
 
@@ -19,7 +18,7 @@ from . import steps
 from .codes import refused
 from .connections import Connection
 from .copies import Codes, connect_copy, places, query_of, refuse_matches
-from .decoding import Decode, Texts, decoder
+from .decoding import Decode, Texts, decoder, is_of_bytes
 from .kept import kept_copy
 from .plans import Plan, Work
 from .queries import Query
@@ -174,7 +173,7 @@ class Questions:
         codes = self._codes.copy()
         with self._lock:
             connection = self._connection_by(query, codes)
-            rewritten = replace(request, filter=query.rewritten(codes.levels))
+            rewritten = request._replace(filter=query.rewritten(codes.levels))
             return Asked(connection, rewritten, query, codes.levels, documents), query.probes_at(codes.levels)
 
     def _connection_by(self, query: Query, codes: Codes) -> Connection:
@@ -264,7 +263,7 @@ class Answering:
         """Opens a cursor of the program, if that was not done."""
         questions.check()
         if self._asked is None:
-            asked = yield from questions.asked(self._request, self._decode == "bson")
+            asked = yield from questions.asked(self._request, is_of_bytes(self._decode))
             self.reading = Reading(asked.request, *self._how, asked.documents_of(self._decode))
             yield from asked.ask(self.reading.start())
             self._asked = asked

@@ -4,9 +4,8 @@ from __future__ import annotations
 
 import json
 import math
-from dataclasses import dataclass, replace
 from functools import partial
-from typing import Any, Iterable, Mapping, Sequence, Union
+from typing import Any, Iterable, Mapping, NamedTuple, Sequence, Union
 
 from .._errors import ArgumentError
 from .._numbers import MOST, whole
@@ -30,9 +29,9 @@ def _named(value: Any) -> Any:
     return [_named(it) for it in value] if isinstance(value, (list, tuple)) else value
 
 
-def _refuse_other_names(value: Any) -> None:
-    """Refuses a name of a filter that is no text: JSON would make a text of it, such as "null", which is another field."""
-    waiting = [value]
+def _is_json(value: Any) -> bool:
+    """Whether JSON has each float of a value. What it would make a text of is refused: a name that is none, and the `Code` of pymongo."""
+    waiting, is_json = [value], True
     while waiting:
         it = waiting.pop()
         if isinstance(it, Mapping):
@@ -42,24 +41,20 @@ def _refuse_other_names(value: Any) -> None:
             waiting.extend(it.values())
         elif isinstance(it, (list, tuple)):
             waiting.extend(it)
-
-
-def _json(value: Any, uuids: Uuids) -> str:
-    text = json.dumps(value, separators=(",", ":"), default=partial(extended, uuids=uuids), allow_nan=False)
-    _refuse_other_names(value)
-    return text
+        elif isinstance(it, float):
+            is_json = is_json and math.isfinite(it)
+        elif isinstance(it, str) and hasattr(it, "scope"):
+            raise TypeError(f'code is written as Extended JSON, {{"$code": {json.dumps(it)}}}')
+    return is_json
 
 
 def text_of(value: Any, uuids: Uuids = "standard") -> str:
     """The JSON of a value. An `ObjectId`, a date, bytes, a UUID, and by pymongo its own types, are written in canonical form, and so
     is a float that is no number of JSON."""
+    dumps = partial(json.dumps, separators=(",", ":"), default=partial(extended, uuids=uuids))
     try:
-        try:
-            return _json(value, uuids)
-        except ValueError as error:
-            if "JSON compliant" not in str(error):
-                raise
-            return _json(_named(value), uuids)
+        text = dumps(value)
+        return text if _is_json(value) else dumps(_named(value))
     except (TypeError, ValueError, OverflowError, RecursionError) as error:
         raise ArgumentError(str(error)) from None
 
@@ -75,12 +70,11 @@ def _pairs_of(sort: Sort | None) -> list[tuple[str, int]]:
             pairs = sort.items() if isinstance(sort, Mapping) else () if sort is None else sort
             return [(path, way) for path, way in pairs]
     except (TypeError, ValueError):
-        pass
+        pass  # They are no pairs.
     raise ArgumentError(f'sort is [("age", -1), ..] or {{"age": -1, ..}}, not {sort!r}')
 
 
-@dataclass(frozen=True)
-class Request:
+class Request(NamedTuple):
     """The texts of a filter and a sort, how many documents are skipped, and how many are given at most (0 is no limit)."""
 
     filter: str = "{}"
@@ -102,7 +96,7 @@ class Request:
     def of_part(self) -> Request:
         """What each part is asked, so that the documents of the answer are among those of the parts."""
         most = self.skip + self.limit
-        return replace(self, skip=0, limit=most if self.limit and most <= MOST else 0)
+        return self._replace(skip=0, limit=most if self.limit and most <= MOST else 0)
 
     @property
     def is_long(self) -> bool:

@@ -16,6 +16,7 @@ _HEX = re.compile("[0-9a-f]{24}")
 # The texts of numbers as the program prints them. Python reads others too, such as "1_000", which a document of a dump may have.
 _WHOLE = re.compile("-?(?:0|[1-9][0-9]*)")
 _DOUBLE = re.compile(r"-?[0-9]+(?:\.[0-9]+)?(?:E[+-]?[0-9]+)?|NaN|-?Infinity")
+_BASE64 = re.compile("[0-9A-Za-z+/]*={0,2}")
 # The names that begin an object which means another value.
 WRAPPERS = (
     "$binary", "$code", "$date", "$dbPointer", "$maxKey", "$minKey", "$numberDecimal", "$numberDouble", "$numberInt",
@@ -86,7 +87,7 @@ def plain_value(value: Any, uuids: Uuids = "standard") -> Any:
             if read:
                 try:
                     return read(inner, uuids)
-                except (AttributeError, TypeError, ValueError, ArithmeticError):
+                except (ValueError, ArithmeticError):
                     return value  # Another document than the value that the name represents, or one without a plain value.
         return plain_document(value, uuids)
     if isinstance(value, list):
@@ -99,16 +100,15 @@ def _whole(text: Any) -> int:
 
 
 def _date(inner: Any) -> datetime:
-    ((name, text),) = inner.items()
-    if name != "$numberLong":
+    if not isinstance(inner, dict) or list(inner) != ["$numberLong"]:
         raise ValueError
-    return _EPOCH + timedelta(milliseconds=_whole(text))
+    return _EPOCH + timedelta(milliseconds=_whole(inner["$numberLong"]))
 
 
 def _binary(inner: Any, uuids: Uuids) -> bytes | UUID:
-    if list(inner) != ["base64", "subType"] or inner["subType"] not in ("00", _subtype_of(uuids)):
+    if not isinstance(inner, dict) or list(inner) != ["base64", "subType"] or inner["subType"] not in ("00", _subtype_of(uuids)):
         raise ValueError
-    data = base64.b64decode(inner["base64"], validate=True)
+    data = base64.b64decode(_text(inner["base64"], _BASE64), validate=True)
     if inner["subType"] == "00":
         return data
     if len(data) != 16:

@@ -12,7 +12,7 @@ from .._dumps.archive_frames import Namespace
 from .._dumps.checking import Checking
 from .._dumps.files import name_in
 from .._dumps.sources import Source
-from .._errors import ArgumentError, BsonfindError, DumpError
+from .._errors import ArgumentError, BsonfindError, is_finding, why
 from .._names import File, name_of
 from .._numbers import whole
 from .._run.processes import Group, processors
@@ -159,8 +159,7 @@ class _Checker:
         """Notes why a file was not read to its end; where all was ended, that is raised."""
         if self.group.is_ended:
             raise error
-        report.error = (error.strerror if isinstance(error, OSError) else None) or str(error)
-        report.is_fault = isinstance(error, DumpError) and error.is_finding
+        report.error, report.is_fault = why(error), is_finding(error)
 
     def _check_archive(self, source: Source, listed: list[Listed]) -> list[Report]:
         """The reports of the collections of an archive, which are checked side by side as their documents come."""

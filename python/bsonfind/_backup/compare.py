@@ -12,7 +12,7 @@ from .._dumps.files import is_whole_archive
 from .._dumps.passing import each_document
 from .._dumps.printing import texts_of_values
 from .._dumps.sources import Source
-from .._errors import BsonfindError
+from .._errors import BsonfindError, why
 from .backups import dumps_below
 from .sorting import Sorter
 
@@ -208,7 +208,7 @@ def _each_document(name: str, program: str, take: Callable[[bytes], None]) -> in
         with Source(name) as source:
             return each_document(source, program, take)
     except (BsonfindError, OSError) as error:
-        raise CompareError(f"{name}: {getattr(error, 'strerror', None) or error}") from None
+        raise CompareError(f"{name}: {why(error)}") from None
 
 
 def rows(done: Comparison, names: Sequence[str], path: str) -> list[tuple[str, int]]:

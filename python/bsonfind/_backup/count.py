@@ -76,6 +76,18 @@ class Count:
         if self._add:
             self._sums[value] = Sum()
 
+    def merge(self, other: Count) -> None:
+        """Adds what other documents came to, which follow those of this one."""
+        self._documents += other._documents
+        self._sum.merge(other._sum)
+        for value, documents in other._counts.items():
+            if value not in self._counts:
+                self._begin(value)
+                documents -= 1
+            self._counts[value] += documents
+        for value, it in other._sums.items():
+            self._sums[value].merge(it)
+
     def rows(self, program: str) -> list[Row]:
         """A row of each value, those of most documents first, and of equally many in the order of values; without a field one row."""
         if not self._by:
@@ -94,6 +106,13 @@ class Count:
                 rows[key] = row._replace(documents=row.documents + documents)
         order = {row.value: order_of(row.value, known.get(row.value, "")) if row.value else () for row in rows.values()}
         return sorted(rows.values(), key=lambda row: (-row.documents, order[row.value]))
+
+
+def counted(by: Path | None, add: Path | None, documents: Sequence[bytes]) -> Count:
+    """What some documents come to."""
+    count = Count(by, add)
+    count.take(documents)
+    return count
 
 
 def _key_of(value: bytes) -> object:

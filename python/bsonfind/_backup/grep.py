@@ -17,13 +17,13 @@ from .._dumps.archive_frames import Namespace, joined_pieces
 from .._dumps.files import name_in, unpacked_of
 from .._dumps.printing import texts_of_values
 from .._dumps.sources import Source
-from .._errors import BsonfindError, DumpError
+from .._errors import BsonfindError, is_finding, why
 from .._faults import Fault
 from .._run.processes import Group
 from .._run.wide import wide_program
 from .backups import Dump
 from .salvage import Salvaging
-from .search import Found, Match, Wanted
+from .search import Found, Match, Search, Wanted
 from .split import split
 from .watching import Watch
 from .workers import Workers
@@ -113,11 +113,11 @@ class _Grep:
         self.group, self.program, self.progress, self.seconds = Group(), program, progress, wanted.seconds
         self.is_stopped = False
         self.pool = ThreadPoolExecutor(jobs)
-        self._workers = Workers(wanted, self.group)
+        self._workers = Workers(Search(wanted).run, self.group)
 
     def search(self, file: str, name: str, data: bytes) -> list[Item]:
         """What is found in some documents, with the texts of it, and what took too long."""
-        found: Found = self._workers.search(data)
+        found: Found = self._workers.run(data)
         values = [value for match in (*found.matches, *found.slow) for value in (match.id, *(it for _, it in match.fields)) if value]
         texts = iter(texts_of_values(values, self.program, self.group) if values else ())
         items: list[Item] = [Hits(file, name, found.documents, found.fields, [row for it in found.matches for row in _rows(it, texts)])]
@@ -172,7 +172,7 @@ class _Reading(threading.Thread):
                 self._put(error)
             self._put(None)
         except _Stopped:
-            pass
+            pass  # No one reads what was found.
 
     def _put(self, item: Item | Future[list[Item]] | BaseException | None) -> None:
         """Gives an item to whoever reads them, once there is space for it."""
@@ -180,12 +180,11 @@ class _Reading(threading.Thread):
             try:
                 return self._items.put(item, timeout=_TICK)
             except queue.Full:
-                continue
+                continue  # It is tried again until no one reads any more.
         raise _Stopped
 
     def _problem(self, name: str, error: BsonfindError | OSError) -> Problem:
-        is_fault = isinstance(error, DumpError) and error.is_finding
-        return Problem(self._dump.name, name, (error.strerror if isinstance(error, OSError) else None) or str(error), is_fault)
+        return Problem(self._dump.name, name, why(error), is_finding(error))
 
     def _read(self) -> None:
         name = self._dump.name

@@ -10,7 +10,7 @@ from .._dumps.originals import Original
 from .._errors import BsonfindError, DumpError
 
 # How many bytes of documents are asked at once.
-MOST = 1 << 25
+MOST = 1 << 24
 
 
 class Matching:

@@ -8,9 +8,8 @@ from typing import Iterator, NamedTuple, Sequence
 from .._ask.lines import counted, try_request
 from .._ask.requests import Request
 from .._dumps.printing import lines_of
-from .._dumps.sources import Input, Source
+from .._dumps.sources import Source
 from .._errors import BsonfindError, DumpError
-from .._faults import Fault
 from .._run.processes import Group
 from .._run.wide import wide_program
 from .backups import Dump
@@ -64,7 +63,7 @@ def _answer(dump: Dump, request: Request, program: str, group: Group) -> Iterato
                     try:
                         counted(run)
                     except DumpError as error:
-                        raise moved(error, part) from None
+                        raise error.moved(part.first, part.offset) from None
     except (BsonfindError, OSError) as error:
         if not is_started:
             yield Found(name, [])
@@ -72,11 +71,3 @@ def _answer(dump: Dump, request: Request, program: str, group: Group) -> Iterato
         return
     if not is_started:
         yield Found(name, [])
-
-
-def moved(error: DumpError, part: Input) -> DumpError:
-    """The error of an input, with the place in the whole dump."""
-    if not error.fault:
-        return error
-    fault: Fault = error.fault.moved(part.first, part.offset)
-    return DumpError(str(fault), fault)

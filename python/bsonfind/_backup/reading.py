@@ -12,7 +12,7 @@ from .._dumps.framing import LONGEST, inputs
 from .._dumps.passing import documents_taken
 from .._dumps.printing import Batches
 from .._dumps.sources import Input, Source, up_to_error
-from .._errors import DumpError
+from .._errors import DumpError, is_finding, why
 from .._run.processes import Group, Run
 from .reports import MOST_FAULTS, Noting, Report
 from .watching import Watch
@@ -42,8 +42,7 @@ class Reading:
                 for documents in batches:
                     take(documents)
         except (DumpError, OSError) as error:
-            report.error = (error.strerror if isinstance(error, OSError) else None) or str(error)
-            report.is_fault = isinstance(error, DumpError) and error.is_finding
+            report.error, report.is_fault = why(error), is_finding(error)
         watch.add_file()
         return report
 

@@ -9,7 +9,7 @@ from typing import Callable, ContextManager, NamedTuple
 
 from .._dumps.outputs import NewOutput, is_same
 from .._dumps.sources import Source
-from .._errors import ArgumentError, BsonfindError, FileError
+from .._errors import ArgumentError, BsonfindError, FileError, why
 from .._run.wide import wide_program
 from .backups import Dump, dumps_below, stem_of_file
 from .metadata import metadata_of
@@ -54,7 +54,7 @@ def salvage_directory(
         except FileError as error:
             done.problems.append(str(error))
         except (BsonfindError, OSError) as error:
-            done.problems.append(f"{dump.name}: {getattr(error, 'strerror', None) or error}")
+            done.problems.append(f"{dump.name}: {why(error)}")
     return done
 
 

@@ -78,6 +78,9 @@ class Field:
             self.elements = self.elements or Field()
             self.elements.merge(other.elements)
 
+    def __reduce__(self) -> tuple[Any, ...]:
+        return _field_of, (self.cells, self.names, self.others, self.elements)
+
     def fold(self) -> Field:
         """Makes one field of those of all names, and gives it."""
         self.others = self.others or Field()
@@ -86,6 +89,13 @@ class Field:
         self.names.clear()
         self.slots.clear()
         return self.others
+
+
+def _field_of(cells: dict[int, Cell], names: dict[bytes, Field], others: Field | None, elements: Field | None) -> Field:
+    """A field of which this is known."""
+    field = Field()
+    field.cells, field.names, field.others, field.elements = cells, names, others, elements
+    return field
 
 
 # What takes a value, its field, and how many bytes the values of the type have, or a number below zero.
@@ -107,6 +117,7 @@ class Schema:
 
     def __init__(self, sample: int | None = None) -> None:
         self._root = Field()
+        # How many paths there are at most.
         self._paths = 0
         # How many documents there are, and how many were looked at.
         self.documents = self.looked_at = 0
@@ -115,25 +126,78 @@ class Schema:
         # The same dump has the same sample.
         self._random = random.Random(0).random
 
+    @property
+    def is_sample(self) -> bool:
+        """Whether documents are chosen, which are looked at in the end."""
+        return self._size is not None
+
     def take(self, documents: Sequence[bytes]) -> None:
         """Looks at some documents, or chooses among them."""
         if self._size is None:
-            self._look_at(documents)
-        else:
-            for number, document in enumerate(documents, self.documents + 1):
-                if len(self._sample) < self._size:
-                    self._sample.append(document)
-                elif (at := int(self._random() * number)) < self._size:
-                    self._sample[at] = document
+            self.add(looked_at(documents))
+            return
+        for number, document in enumerate(documents, self.documents + 1):
+            if len(self._sample) < self._size:
+                self._sample.append(document)
+            elif (at := int(self._random() * number)) < self._size:
+                self._sample[at] = document
         self.documents += len(documents)
 
-    def _look_at(self, documents: Sequence[bytes]) -> None:
+    def add(self, looked: Looked) -> None:
+        """Adds what was found in documents, which follow the others."""
+        self._merge(looked)
+        self.documents += looked.documents
+
+    def _merge(self, looked: Looked) -> None:
+        self._root.merge(looked.root)
+        self._paths += looked.paths
+        if self._paths > MOST_PATHS:
+            self._paths = sum(1 for _ in self._root.all()) - 1
+            refuse_paths(self._paths)
+        self.looked_at += looked.documents
+
+    def rows(self) -> Iterator[Row]:
+        """A row of each path, in the order in which they were found, those below a path after it."""
+        sample, self._sample = self._sample, []
+        self._merge(looked_at(sample))
+        for rest, field in self._root.below():
+            yield from _rows(rest[1:], field, None if field is self._root.others else self.looked_at)
+
+
+class Looked(NamedTuple):
+    """What was found in some documents: their fields, how many paths these have, and how many documents there were."""
+
+    root: Field
+    paths: int
+    documents: int
+
+
+def looked_at(documents: Sequence[bytes]) -> Looked:
+    """What is found in some documents."""
+    looking = _Looking()
+    looking.look(documents)
+    return Looked(looking.root, looking.paths, len(documents))
+
+
+def refuse_paths(paths: int) -> None:
+    """Refuses more paths than are kept."""
+    if paths > MOST_PATHS:
+        raise TooManyError(f"the documents have more than {MOST_PATHS:,} paths: --sample N looks at fewer of them")
+
+
+class _Looking:
+    """A look at some documents, which is at all of their values once."""
+
+    def __init__(self) -> None:
+        self.root, self.paths = Field(), 0
+
+    def look(self, documents: Sequence[bytes]) -> None:
+        """Looks at documents without a fault."""
         for document in documents:
-            self._fields(self._root, document, 4)
-        for field in self._root.all():
+            self._fields(self.root, document, 4)
+        for field in self.root.all():
             for cell in field.cells.values():
                 cell.look()
-        self.looked_at += len(documents)
 
     def _fields(self, field: Field, data: bytes, at: int) -> int:
         """Takes the fields of a document, whose first one begins at a byte, and gives where it ends."""
@@ -193,24 +257,16 @@ class Schema:
         if name not in field.names:
             if len(field.names) == MOST_NAMES:
                 others = field.fold()
-                self._paths = sum(1 for _ in self._root.all())
+                self.paths = sum(1 for _ in self.root.all()) - 1
                 return others.slot(kind)
             field.names[name] = self._new()
         slot = field.slots[head] = field.names[name].slot(kind)
         return slot
 
     def _new(self) -> Field:
-        if self._paths >= MOST_PATHS:
-            raise TooManyError(f"the documents have more than {MOST_PATHS:,} paths: --sample N looks at fewer of them")
-        self._paths += 1
+        self.paths += 1
+        refuse_paths(self.paths)
         return Field()
-
-    def rows(self) -> Iterator[Row]:
-        """A row of each path, in the order in which they were found, those below a path after it."""
-        sample, self._sample = self._sample, []
-        self._look_at(sample)
-        for rest, field in self._root.below():
-            yield from _rows(rest[1:], field, None if field is self._root.others else self.looked_at)
 
 
 def _rows(path: str, field: Field, total: int | None) -> Iterator[Row]:

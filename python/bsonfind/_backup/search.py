@@ -1,11 +1,10 @@
-"""What a text, an id or a UUID is found in: the names and the texts of documents. A process of Python runs it for another one.
+"""What a text, an id or a UUID is found in: the names and the texts of documents, as a process of Python looks for another one.
 
 Nothing is printed here, and each document was checked before.
 """
 
 from __future__ import annotations
 
-import pickle
 import re
 import signal
 import struct
@@ -13,13 +12,11 @@ import sys
 from importlib import import_module
 from typing import Any, Iterator, NamedTuple
 
-from .._dumps.elements import value_at, value_end
+from .._dumps.elements import SIZES, end_of, value_at
 
 _DOCUMENT, _ARRAY, _BINARY, _ID, _PATTERN, _POINTER, _CODE, _SCOPED = 0x03, 0x04, 0x05, 0x07, 0x0B, 0x0C, 0x0D, 0x0F
 # The types whose values are texts alone.
 _TEXTS = (0x02, _CODE, 0x0E)
-# The sizes of the values of other types that no text is in.
-_SIZES = {0x01: 8, 0x08: 1, 0x09: 8, 0x0A: 0, 0x10: 4, 0x11: 8, 0x12: 8, 0x13: 16}
 # A UUID is of this subtype, or as old drivers wrote it of the other one, with its bytes in some order.
 _UUID, _OLD_UUID = 4, 3
 _UUID_SIZE = 16
@@ -158,13 +155,13 @@ class Search:
                 if kind in _TEXTS:
                     stop = start + 4 + _length_at(data, start)[0]
                     is_match = is_match or self._matches(data[start + 4 : stop - 1])
-                elif kind in _SIZES:
-                    stop = start + _SIZES[kind]
+                elif (size := SIZES[kind]) >= 0 and kind != _ID:
+                    stop = start + size
                 else:
-                    stop = _end(data, kind, start)
+                    stop = end_of(data, kind, start)
                     is_match = is_match or self._matches_value(data, kind, start, stop)
             except _TooLong:
-                stop = _end(data, kind, start)
+                stop = end_of(data, kind, start)
                 self._slow.append((_path(path, name), b""))
             if is_match:
                 self._fields.append((_path(path, name), self._value(data, kind, start, stop)))
@@ -265,14 +262,6 @@ def _blocks(data: bytes) -> Iterator[tuple[int, int]]:
         yield start, len(data)
 
 
-def _end(data: bytes, kind: int, start: int) -> int:
-    """Where a value ends that begins there."""
-    stop = value_end(data, kind, start)
-    if stop is None:
-        raise ValueError(f"no end of a value of type {kind}")
-    return stop
-
-
 def _path(path: bytes | None, name: bytes) -> str:
     return _below(path, name).decode(errors="ignore")
 
@@ -280,16 +269,3 @@ def _path(path: bytes | None, name: bytes) -> str:
 def _below(path: bytes | None, name: bytes) -> bytes:
     """The path of a field, by that of the document that it is in, or by none."""
     return (name if path is None else path + b"." + name)[:_LONGEST_PATH]
-
-
-def serve() -> None:
-    """Searches the documents that come on standard input, and writes what is found in them to standard output, until no more come."""
-    signal.signal(signal.SIGINT, signal.SIG_IGN)
-    search = Search(pickle.load(sys.stdin.buffer))
-    while True:
-        try:
-            data = pickle.load(sys.stdin.buffer)
-        except EOFError:
-            return
-        pickle.dump(search.run(data), sys.stdout.buffer, pickle.HIGHEST_PROTOCOL)
-        sys.stdout.buffer.flush()

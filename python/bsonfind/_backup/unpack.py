@@ -13,7 +13,7 @@ from .._dumps.files import member_of
 from .._dumps.gzip import UnpackError
 from .._dumps.outputs import NewOutput, refuse_there
 from .._dumps.sources import Source
-from .._errors import ArgumentError, DumpError, FileError
+from .._errors import ArgumentError, DumpError, FileError, why
 from .._names import File, name_of
 from .backups import stem_of
 
@@ -147,7 +147,7 @@ class _Unpacking:
         try:
             yield from self._archive.blocks(self._only)
         except (UnpackError, OSError) as error:
-            self._error = (error.strerror if isinstance(error, OSError) else None) or str(error)
+            self._error = why(error)
 
     def _write_metadata(self, listed: Listed) -> None:
         collection = self._collection(listed.namespace)

@@ -3,12 +3,9 @@
 from __future__ import annotations
 
 from contextlib import nullcontext
-from typing import Any, Callable, ContextManager, Protocol
+from typing import Any, ContextManager, Protocol
 
 from .._dumps.sources import Source
-
-# What gets each line that a command prints.
-Say = Callable[[str], None]
 
 
 class Watch(Protocol):

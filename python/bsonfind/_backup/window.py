@@ -7,6 +7,7 @@ from typing import Iterator
 
 from .._dumps.framing import LONGEST, SHORTEST
 from .._dumps.gzip import UnpackError
+from .._errors import why
 
 # How many bytes are passed at once at most before the next piece is asked for.
 _MOST_AT_ONCE = 1 << 20
@@ -33,8 +34,7 @@ class Window:
             try:
                 piece = next(self._pieces, b"")
             except (UnpackError, OSError) as error:
-                self.error = (error.strerror if isinstance(error, OSError) else None) or str(error)
-                piece = b""
+                self.error, piece = why(error), b""
             if not piece:
                 return False
             self._held += piece

@@ -1,4 +1,4 @@
-"""Processes of Python that search documents, since one uses one processor."""
+"""Processes of Python that work on documents, since one uses one processor."""
 
 from __future__ import annotations
 
@@ -7,47 +7,54 @@ import queue
 import subprocess
 import sys
 import threading
-from typing import cast
+from collections import deque
+from concurrent.futures import Future, ThreadPoolExecutor
+from typing import Any, Callable, Generic, List, TypeVar
 
-from .._errors import ProgramError
-from .._run.processes import Group, Run
-from .search import Found, Wanted
+from .._errors import BsonfindError, ProgramError
+from .._run.processes import Group, Run, close, processors
+from . import serving
 
+T = TypeVar("T")
 # A process takes the package from where this one has it.
-_CODE = "import pickle, sys; sys.path[:] = pickle.load(sys.stdin.buffer); from {} import serve; serve()"
+_CODE = f"import pickle, sys; sys.path[:] = pickle.load(sys.stdin.buffer); from {serving.__name__} import serve; serve()"
 
 
 class Workers:
-    """Some processes, each of which is started once it is needed. Threads share them."""
+    """Some processes for one kind of work, each of which is started once it is needed. Threads share them."""
 
-    def __init__(self, wanted: Wanted, group: Group) -> None:
-        self._wanted, self._group = wanted, group
+    def __init__(self, work: Callable[[Any], Any], group: Group) -> None:
+        """The work is a function that a process finds by its name, or a method of an object that can be copied."""
+        self._work, self._group = work, group
         self._all: list[Run] = []
         self._free: queue.SimpleQueue[Run] = queue.SimpleQueue()
         self._lock = threading.Lock()
 
-    def search(self, data: bytes) -> Found:
-        """What is found in documents, by a process that is free."""
+    def run(self, given: object) -> Any:
+        """What the work on this comes to, by a process that is free."""
         try:
             worker = self._free.get_nowait()
         except queue.Empty:
             worker = self._start()
         try:
-            pickle.dump(data, worker.stdin, pickle.HIGHEST_PROTOCOL)
+            pickle.dump(given, worker.stdin, pickle.HIGHEST_PROTOCOL)
             worker.stdin.flush()
-            found = cast(Found, pickle.load(worker.stdout))
+            result = pickle.load(worker.stdout)
         except (OSError, EOFError, pickle.UnpicklingError):
+            close(worker.stdin)  # It ends, if it has not, and its messages say why.
             raise worker.error() from None
         self._free.put(worker)
-        return found
+        if isinstance(result, BsonfindError):
+            raise result
+        return result
 
     def _start(self) -> Run:
         if not sys.executable:
             raise ProgramError("cannot start Python: it is not known where it is")
-        worker = Run([sys.executable, "-S", "-c", _CODE.format(Wanted.__module__)], stdin=subprocess.PIPE, group=self._group)
+        worker = Run([sys.executable, "-S", "-c", _CODE], stdin=subprocess.PIPE, group=self._group)
         with self._lock:
             self._all.append(worker)
-        for it in (sys.path, self._wanted):
+        for it in (sys.path, self._work):
             pickle.dump(it, worker.stdin)
         return worker
 
@@ -55,3 +62,42 @@ class Workers:
         """Ends all of them."""
         for worker in self._all:
             worker.close()
+
+
+class Spread(Generic[T]):
+    """Work on documents, some at once, by a process for each processor. What it comes to is taken in the order of the documents.
+
+    The first documents wait for others: if there are none, no process is started.
+    """
+
+    def __init__(self, work: Callable[[List[bytes]], T], take: Callable[[T], None]) -> None:
+        self._work, self._take, self._group, jobs = work, take, Group(), processors()
+        self._workers, self._pool, self._most = Workers(work, self._group), ThreadPoolExecutor(jobs), jobs
+        self._first: list[bytes] | None = None
+        self._ahead: deque[Future[T]] = deque()
+
+    def add(self, documents: list[bytes]) -> None:
+        """Has some documents worked on."""
+        if self._first is None and not self._ahead:
+            self._first = documents
+            return
+        for some in (documents,) if self._first is None else (self._first, documents):
+            self._ahead.append(self._pool.submit(self._workers.run, some))
+        self._first = None
+        while len(self._ahead) > self._most:
+            self._take(self._ahead.popleft().result())
+
+    def take_rest(self) -> None:
+        """Takes what is left."""
+        if self._first is not None:
+            self._take(self._work(self._first))
+        while self._ahead:
+            self._take(self._ahead.popleft().result())
+
+    def __enter__(self) -> Spread[T]:
+        return self
+
+    def __exit__(self, *_: object) -> None:
+        self._group.end()
+        self._pool.shutdown(cancel_futures=True)
+        self._workers.close()

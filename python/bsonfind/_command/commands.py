@@ -5,7 +5,7 @@ from __future__ import annotations
 import argparse
 import os
 
-from .._errors import DumpError
+from .._errors import DumpError, is_finding, why
 from .arguments import Refused
 from .console import Console, Progress, visible
 
@@ -230,29 +230,27 @@ def _run_query(words: argparse.Namespace) -> int:
             documents += len(lines)
             names.add(name)
         if error:
-            console.problem(f"{name}: {getattr(error, 'strerror', None) or error}")
+            console.problem(f"{name}: {why(error)}")
             failed += 1
-            status = max(status, FAULTY if isinstance(error, DumpError) and error.is_finding else FAILED)
+            status = max(status, FAULTY if is_finding(error) else FAILED)
     console.note(f"{documents} documents in {len(names)} of {len(dumps)} files" + (f", {failed} not asked in full" if failed else ""))
     return status
 
 
 def _run_count(words: argparse.Namespace) -> int:
-    from .._backup.count import Count
     from .._dumps.paths import Path
     from .counting import Counting
 
     _refuse_twice(words.files)
     by, add = (None if it is None else Path(it) for it in (words.by, words.sum))
-    return Counting(words.files, words.program, words.json).count(Count(by, add), words.query)
+    return Counting(words.files, words.program, words.json).count(by, add, words.query)
 
 
 def _run_schema(words: argparse.Namespace) -> int:
-    from .._backup.schema import Schema
     from .counting import Counting
 
     _refuse_twice(words.files)
-    return Counting(words.files, words.program, words.json).schema(Schema(words.sample))
+    return Counting(words.files, words.program, words.json).schema(words.sample)
 
 
 def _run_info(words: argparse.Namespace) -> int:

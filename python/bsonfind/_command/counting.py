@@ -4,15 +4,18 @@ from __future__ import annotations
 
 import json
 from decimal import Decimal
+from functools import partial
 from itertools import islice
 from typing import Iterable, Iterator, Sequence
 
-from .._backup.count import Count, Row
+from .._backup.count import Count, Row, counted
 from .._backup.reading import Reading, Take
 from .._backup.schema import Row as PathRow
-from .._backup.schema import Schema
+from .._backup.schema import Schema, looked_at
 from .._backup.texts import texts
+from .._backup.workers import Spread
 from .._dumps.numbers import Number, is_finite
+from .._dumps.paths import Path
 from .._run.wide import wide_program
 from .console import Console, Progress
 from .table import Table
@@ -33,24 +36,35 @@ class Counting:
         self._console = Console()
         wide_program(program)
 
-    def count(self, count: Count, query: str | None) -> int:
+    def count(self, by: Path | None, add: Path | None, query: str | None) -> int:
         """Prints how many documents match, in all or of each value, and gives the status."""
-        status, is_read = self._read(count.take) if query is None else self._read_matching(count.take, query)
+        count = Count(by, add)
+        if count.is_by or count.is_adding:
+            with Spread(partial(counted, by, add), count.merge) as spread:
+                status, is_read = self._read_matching(spread.add, query)
+                spread.take_rest()
+        else:
+            status, is_read = self._read_matching(count.take, query)
         if is_read:
             names = (*(("value",) if count.is_by else ()), "count", *(_OF_SUMS if count.is_adding else ()))
             self._print(names, self._counts(count.rows(self._program)))
         return status
 
-    def schema(self, fields: Schema) -> int:
+    def schema(self, sample: int | None) -> int:
         """Prints the fields of documents, and gives the status."""
-        status, is_read = self._read(fields.take)
+        fields = Schema(sample)
+        with Spread(looked_at, fields.add) as spread:
+            status, is_read = self._read(fields.take if fields.is_sample else spread.add)
+            spread.take_rest()
         if is_read:
             self._print(("path", "types", "least", "greatest", "example"), self._fields(list(fields.rows())))
             part = "" if fields.looked_at == fields.documents else f"{fields.looked_at} of "
             self._console.note(f"{part}{fields.documents} documents")
         return status
 
-    def _read_matching(self, take: Take, query: str) -> tuple[int, bool]:
+    def _read_matching(self, take: Take, query: str | None) -> tuple[int, bool]:
+        if query is None:
+            return self._read(take)
         from .._backup.matching import MOST, Matching
 
         matching = Matching(query, self._program)

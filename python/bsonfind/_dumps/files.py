@@ -15,7 +15,6 @@ from . import gzip
 from .archive import Listed, documents_of, is_archive
 from .archive_frames import Namespace
 
-_PIECE = 1 << 20
 # As many bytes as say what a file is.
 _HEAD = 1 << 12
 # What is between the name of an archive and that of a collection in it.
@@ -107,14 +106,6 @@ def is_packed(path: File) -> bool:
     return os.fsdecode(path).endswith(".gz") or member_of(path) is not None
 
 
-def opened(path: File) -> BinaryIO:
-    """The file, without a buffer; one that cannot be opened is a `DumpError`, as the program says it."""
-    try:
-        return open(file_of(path), "rb", buffering=0)
-    except OSError as error:
-        raise not_opened(path, error) from error
-
-
 def not_opened(path: File, error: OSError) -> DumpError:
     """Why a file cannot be opened, as the program says it."""
     name = os.fsdecode(path)
@@ -125,15 +116,6 @@ def unpacked_of(path: File, pieces: Iterator[bytes], listed: list[Listed] | None
     """The bytes of a dump that is packed, out of the pieces of its file. The list of an archive is added to another one."""
     member = member_of(path)
     return documents_of(pieces, member.namespace, listed) if member else gzip.unpacked(pieces)
-
-
-def pieces_of(file: BinaryIO, path: File) -> Iterator[bytes]:
-    """The bytes of an open file from where it is; a read that fails is a `DumpError`."""
-    try:
-        while piece := read_some(file, _PIECE):
-            yield piece
-    except OSError as error:
-        raise DumpError(f"cannot read {os.fsdecode(path)}: {error.strerror}") from error
 
 
 def read_some(file: BinaryIO, most: int) -> bytes:

@@ -40,10 +40,10 @@ def walk(file: BinaryIO, start: int = 0, end: int | None = None) -> Iterator[int
             piece, base = read_at(file, at, min(_PIECE, end - at), min(4, end - at)), at
             last = base + len(piece) - 4
             if at > last:
-                raise _bad(number, at, "length cut short")
+                raise bad(number, at, "length cut short")
         (length,) = _length_at(piece, at - base)
         if not SHORTEST <= length <= LONGEST or length > end - at:
-            raise _bad(number, at, "bad length")
+            raise bad(number, at, "bad length")
         at += length
         number += 1
         yield at
@@ -120,6 +120,6 @@ class _Inputs:
         return min(at, len(held)), False
 
 
-def _bad(number: int, at: int, kind: str) -> DumpError:
-    fault = Fault(number, at, "", kind)
-    return DumpError(str(fault), fault)
+def bad(number: int, at: int, kind: str) -> DumpError:
+    """The error of a document whose length is wrong."""
+    return DumpError.at(Fault(number, at, "", kind))

@@ -120,8 +120,7 @@ class Original:
                 raise
             at = error.fault.document
             start = self._offsets(numbers[at])[0] - self._start - sum(map(len, documents[:at]))
-            fault = error.fault.moved(numbers[at] - at, start)
-            raise DumpError(str(fault), fault) from None
+            raise error.moved(numbers[at] - at, start) from None
 
     def count(self) -> int:
         """How many documents there are, by their lengths."""
@@ -142,7 +141,7 @@ class Original:
         """The first damage, if there is some."""
         with checking(Input(0, 0, None, self.pieces()), program, group) as run:
             for fault in faults_of(run):
-                return DumpError(str(fault), fault)
+                return DumpError.at(fault)
             finish_check(run, self.count())
         return None
 

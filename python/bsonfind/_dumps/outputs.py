@@ -5,6 +5,8 @@ from __future__ import annotations
 import errno
 import os
 import stat
+from contextlib import contextmanager
+from typing import Iterator
 
 from .._errors import ArgumentError, FileError
 from .files import file_of
@@ -41,7 +43,7 @@ class Output:
         """A file that is there keeps its rights; a new one may be given those of what it is a copy of."""
         self.name = name
         self._path = self._beside = os.path.realpath(name)
-        try:
+        with self._naming():
             refuse_no_file(name)
             there = os.stat(name) if os.path.exists(name) else None
             if there and not stat.S_ISREG(there.st_mode):
@@ -55,46 +57,44 @@ class Output:
             mode = stat.S_IMODE(there.st_mode) if there else mode
             if mode is not None:
                 os.chmod(self._beside, mode)
+
+    @contextmanager
+    def _naming(self) -> Iterator[None]:
+        """Has errors of the system name the file as it was given."""
+        try:
+            yield
         except OSError as error:
-            raise self._named(error) from None
+            raise FileError(error.errno, error.strerror, self.name) from None
 
     def write(self, data: bytes | memoryview) -> None:
         """Writes bytes."""
-        try:
+        with self._naming():
             self._file.write(data)
-        except OSError as error:
-            raise self._named(error) from None
 
     def complete(self) -> None:
         """Has all bytes on the disk."""
-        try:
+        with self._naming():
             self._file.flush()
             if self._beside != self._path:
                 os.fsync(self._file.fileno())
-        except OSError as error:
-            raise self._named(error) from None
 
     def put_in_place(self) -> None:
         """Gives the file its name."""
         if self._beside != self._path:
-            try:
+            with self._naming():
                 os.replace(self._beside, self._path)
-            except OSError as error:
-                raise self._named(error) from None
             self._beside = self._path
-
-    def _named(self, error: OSError) -> FileError:
-        return FileError(error.errno, error.strerror, self.name)
 
     def __enter__(self) -> Output:
         return self
 
     def __exit__(self, kind: object, *_: object) -> None:
         try:
-            self._file.close()
-        except OSError as error:
+            with self._naming():
+                self._file.close()
+        except FileError:
             if kind is None:
-                raise self._named(error) from None
+                raise  # Else what was wrong before is raised.
         finally:
             if self._beside != self._path:
                 os.unlink(self._beside)
@@ -107,12 +107,10 @@ class NewOutput(Output):
         self.name = self._path = name
         self._beside = part
         refuse_there(name, part)
-        try:
+        with self._naming():
             self._file = open(self._beside, "xb")
             if mode is not None:
                 os.chmod(self._beside, mode)
-        except OSError as error:
-            raise self._named(error) from None
 
     @property
     def path(self) -> str:
@@ -126,10 +124,8 @@ class NewOutput(Output):
 
     def put_in_place(self) -> None:
         """Gives the file its name, unless something has it by now."""
-        try:
+        with self._naming():
             self._rename()
-        except OSError as error:
-            raise self._named(error) from None
         self._beside = self._path = self.name
 
     def _rename(self) -> None:

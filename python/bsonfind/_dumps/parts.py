@@ -2,8 +2,6 @@
 
 from __future__ import annotations
 
-import os
-import stat
 import struct
 from contextlib import contextmanager
 from dataclasses import dataclass, field
@@ -11,10 +9,11 @@ from typing import BinaryIO, Iterable, Iterator
 
 from .._errors import DumpError
 from .._faults import Fault
-from .._names import File, name_of
+from .._names import File, name_of, name_of_file
 from .._numbers import whole
-from .files import FileState, is_packed, member_of, opened, pieces_of, refuse_archive, unpacked_of
-from .framing import LONGEST, SHORTEST, walk
+from .files import FileState
+from .framing import LONGEST, SHORTEST, bad, walk
+from .sources import Source
 
 # What a part has at most where nothing else is asked for; a run of `find` holds its part in memory.
 MOST = 1 << 30
@@ -49,29 +48,29 @@ class Part:
     def pieces(self) -> Iterator[bytes]:
         """The bytes of the part, which is an error where the file no longer has them."""
         left = self.length
-        with self.opened() as file:
-            for piece in self._bytes_of(file):
+        with self.opened() as source:
+            for piece in self._bytes_of(source):
                 yield piece
                 left -= len(piece)
             if left:
                 raise PartError(self, f"{left} bytes are missing: the file became shorter")
 
     @contextmanager
-    def opened(self) -> Iterator[BinaryIO]:
+    def opened(self) -> Iterator[Source]:
         """The open file, as it was when it was split, before and after it is read."""
-        with opened(self.path) as file:
-            self._check_state(file)
-            yield file
-            self._check_state(file)
+        with Source(name_of_file(self.path), is_named=True) as source:
+            self._check_state(source.file)
+            yield source
+            self._check_state(source.file)
 
-    def _bytes_of(self, file: BinaryIO) -> Iterator[bytes]:
+    def _bytes_of(self, source: Source) -> Iterator[bytes]:
         """The bytes of the part, as many as the file has."""
-        if is_packed(self.path):
-            yield from _between(unpacked_of(self.path, pieces_of(file, self.path)), self.offset, self.offset + self.length)
+        if source.is_packed:
+            yield from _between(source.pieces(), self.offset, self.offset + self.length)
             return
         left = self.length
-        file.seek(self.offset)
-        while left and (piece := file.read(min(left, _PIECE))):
+        source.file.seek(self.offset)
+        while left and (piece := source.file.read(min(left, _PIECE))):
             left -= len(piece)
             yield piece
 
@@ -121,28 +120,26 @@ def plan(path: File, most: int = MOST) -> list[Part]:
     name = name_of(path)
     parts: list[Part] = []
     start = first = at = number = 0
-    with opened(name) as file:
-        if member_of(name) is None and stat.S_ISREG(os.fstat(file.fileno()).st_mode):
-            refuse_archive(name, file)
-        state = FileState.of(file)
-        for number, after in enumerate(_ends(name, file)):
+    with Source(name_of_file(name), is_named=True) as source:
+        for number, after in enumerate(_ends(source)):
             if after - start > most and at > start:
-                parts.append(Part(name, start, at - start, first, state))
+                parts.append(Part(name, start, at - start, first, source.state))
                 start, first = at, number
             at = after
     if at > start:
-        parts.append(Part(name, start, at - start, first, state))
+        parts.append(Part(name, start, at - start, first, source.state))
     return parts
 
 
-def _ends(name: str, file: BinaryIO) -> Iterator[int]:
+def _ends(source: Source) -> Iterator[int]:
     """The place after each document of a file. What has no size, such as a pipe, cannot be split: each part opens it again."""
-    if not stat.S_ISREG(os.fstat(file.fileno()).st_mode):
-        raise DumpError(f"{name} is no regular file")
+    if source.size is None:
+        raise DumpError(f"{source.name} is no regular file")
+    source.refuse_archive()
     try:
-        yield from ends_in(unpacked_of(name, pieces_of(file, name))) if is_packed(name) else walk(file)
+        yield from ends_in(source.pieces()) if source.is_packed else walk(source.file)
     except OSError as error:
-        raise DumpError(f"cannot read {name}: {error.strerror}") from error
+        raise DumpError(f"cannot read {source.name}: {error.strerror}") from error
 
 
 def ends_in(pieces: Iterable[bytes]) -> Iterator[int]:
@@ -159,15 +156,10 @@ def ends_in(pieces: Iterable[bytes]) -> Iterator[int]:
                 break
             (length,) = _length_at(held, len(held) - (seen - at))
             if not SHORTEST <= length <= LONGEST:
-                raise _bad(number, at, "bad length")
+                raise bad(number, at, "bad length")
             at += length
         held = held[len(held) - (seen - at) :] if at < seen else b""
     if at > seen:
-        raise _bad(number, start, "bad length")
+        raise bad(number, start, "bad length")
     if at < seen:
-        raise _bad(number, at, "length cut short")
-
-
-def _bad(number: int, at: int, kind: str) -> DumpError:
-    fault = Fault(number, at, "", kind)
-    return DumpError(str(fault), fault)
+        raise bad(number, at, "length cut short")

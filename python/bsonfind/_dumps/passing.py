@@ -23,8 +23,7 @@ def each_document(source: Source, program: str, take: Callable[[bytes], None], g
     for offset, first, pieces in inputs(source.pieces()):
         with checking(Input(offset, first, None, documents_taken(pieces, take)), program, group) as run:
             for fault in faults_of(run):
-                moved = fault.moved(first, offset)
-                raise DumpError(str(moved), moved)
+                raise DumpError.at(fault.moved(first, offset))
             documents = first + finish_check(run)
     return documents
 

@@ -41,11 +41,9 @@ class Printing:
                         yield from lines_of(run.stdout)
                     self.documents = part.first + finish_dump(run)
                 except DumpError as error:
-                    if not error.fault:
-                        raise
-                    fault = error.fault.moved(part.first, part.offset)
-                    self.documents = fault.document
-                    raise DumpError(str(fault), fault) from None
+                    moved = error.moved(part.first, part.offset)
+                    self.documents = moved.fault.document if moved.fault else self.documents
+                    raise moved from None
 
 
 def lines_of_documents(documents: Sequence[bytes], program: str, group: Group | None = None) -> list[bytes]:
