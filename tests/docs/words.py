@@ -1,12 +1,13 @@
 #!/usr/bin/env python3
-"""Looks whether the identifiers and the comments of the crates, and the comments and docstrings of the package of Python, use one word for
-one meaning: it counts the words that are gone.
+"""Looks whether the identifiers and the comments of the crates, the comments and docstrings of the package of Python, and the pages use
+one word for one meaning: it counts the words that are gone.
 
 usage: tests/docs/words.py     Each line names a file, and an identifier or a line of a comment with a word that is gone. The last line is
                                'N passed, M failed'.
 
 A part of an identifier is what is between `_` and capitals: `front_of` has the word `front`, and so has `TextFront`. A name that a file
-imports from the kit is the kit's, and so is a label of a clause of the kit. A comment may have any word in backquotes, and in an example.
+imports from the kit is the kit's, and so is a label of a clause of the kit. A comment or a page may have any word in backquotes, and in an
+example. A changelog and what a tool writes are not looked at.
 """
 import ast
 import io
@@ -94,6 +95,22 @@ COMMENTS = {
     r"no memory (?:was given|is taken)|allocator (?:gives|gave|refuse[sd])": "memory runs out, it takes no memory",
 }
 
+# What is gone from pages: a page may say that a file was cut, or name a place.
+PAGE_WORDS = {
+    r"told|tells?|telling|untold": "reports, prints, says",
+    r"asked|asks": "searches, queries, requested",
+    r"handed|hand(?:s|ing)? (?:on|out|in|over)": "passes, writes, returns",
+    r"stands?|stood|standing": "is, is at, means",
+    r"so many|so deep": "n, as many as the number",
+    r"fronts?": "prefix, start",
+    r"own": "leave it out, or name whose it is",
+    r"starve[sd]?|no memory (?:was given|is taken)": "memory runs out",
+    r"gather(?:s|ed|ing)?": "collects",
+    r"(?:lets?|letting) (?:\w+ )?go": "drops, frees",
+    r"wants?|wanted|suits?|suited": "needs, matches",
+    r"in vain|in hand|anew|once more": "again, in memory",
+}
+
 IDENT = re.compile(r"[A-Za-z_][A-Za-z0-9_]*")
 PART = re.compile(r"[A-Z]+(?![a-z])|[A-Z]?[a-z0-9]+|[A-Z]")
 PLAIN = {
@@ -103,6 +120,7 @@ PLAIN = {
 FENCE = re.compile(r"//[/!] *```")
 QUOTED = re.compile(r"`[^`]*`")
 GONE = {re.compile(rf"\b(?:{gone})\b", re.I): write for gone, write in COMMENTS.items()}
+GONE_FROM_PAGES = {re.compile(rf"\b(?:{gone})\b", re.I): write for gone, write in PAGE_WORDS.items()}
 USE = re.compile(r"\buse\s+(?:Rattle\.)?([A-Za-z]\w*)((?:::|\.)[^;\n]*?\{[^}]*\}|(?:::|\.)[^;\n]*)", re.S)
 KIT_LABEL = re.compile(r"\b(?:split_at[\w-]*\.ensures|splits)\.\w+")
 LABEL = re.compile(r"^\s*(?:ensures|requires|invariant|ghost) (\w+)(?: \{|:)", re.M)
@@ -176,6 +194,22 @@ def faults_of_module(path: Path) -> Iterator[str]:
                 yield f"line {line}: {found[0]} is gone from comments, write {write}"
 
 
+def pages() -> list[Path]:
+    """The pages that are written by hand, without the changelog."""
+    root = PACKAGE.parent
+    found = [*root.glob("*.md"), *root.glob("docs/*.md"), PACKAGE / "README.md", root / "examples/README.md"]
+    return sorted(it for it in found if it.name not in ("CHANGELOG.md", "REFERENCE.md"))
+
+
+def faults_of_page(path: Path) -> Iterator[str]:
+    """What is to be written otherwise in a page, without its commands and what is in backquotes."""
+    text = re.sub(r"^```.*?^```|^    .*?$", lambda it: "\n" * it[0].count("\n"), path.read_text(encoding="utf-8"), flags=re.M | re.S)
+    for line, prose in enumerate(QUOTED.sub(lambda it: "\n" * it[0].count("\n"), text).split("\n"), 1):
+        for gone, write in GONE_FROM_PAGES.items():
+            if found := gone.search(prose):
+                yield f"line {line}: {found[0]} is gone from pages, write {write}"
+
+
 def main() -> int:
     sources = [it for kind in ("src", "specs", "proofs") for it in CRATES.glob(f"*/{kind}/**/*") if it.suffix in PLAIN]
     roots = {it.name for it in CRATES.iterdir()} | {"crate", "self", "super"}
@@ -189,10 +223,11 @@ def main() -> int:
             print(f"{source.relative_to(CRATES)}: {fault}")
         failed += len(faults)
         passed += not faults
-    for module in sorted(it for it in (PACKAGE / "bsonfind").rglob("*.py") if it.name not in UNREAD):
-        faults = list(faults_of_module(module))
+    modules = sorted(it for it in (PACKAGE / "bsonfind").rglob("*.py") if it.name not in UNREAD)
+    for text, faults_in in [*((it, faults_of_module) for it in modules), *((it, faults_of_page) for it in pages())]:
+        faults = list(faults_in(text))
         for fault in faults:
-            print(f"{module.relative_to(PACKAGE)}: {fault}")
+            print(f"{text.relative_to(PACKAGE.parent)}: {fault}")
         failed += len(faults)
         passed += not faults
     print(f"{passed} passed, {failed} failed")
