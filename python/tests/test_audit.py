@@ -108,12 +108,9 @@ class Audits(Room):
 
     def test_every_night(self) -> None:
         """The script of the guide prints nothing of a good backup, and of another one nothing of its good files."""
-        guide = (ROOT / "docs/GUIDE.md").read_text(encoding="utf-8")
-        script = guide.partition("This is `nightly.sh`:\n\n")[2].partition("\n\n")[0]
-        path = self.file("".join(line[4:] + "\n" for line in script.split("\n")).encode(), "nightly.sh")
         self.collection(DOUBLE * 12, "prices")
         log = self.file(f"{LOG}done dumping club.prices (12 documents)\n".encode(), "log")
-        command = ["bash", str(path), str(log), self.backup]
+        command = ["bash", str(ROOT / "examples/nightly.sh"), str(log), self.backup]
         self.script(f'exec "{sys.executable}" -m bsonfind --program "$PROGRAM" "$@"', "bin/bsonkit")
         env = {**environment(), "PATH": f"{self.room}/bin:{os.environ['PATH']}"}
         run = subprocess.run(command, env=env, capture_output=True, text=True, timeout=PATIENCE)
