@@ -30,7 +30,7 @@ PAGES = sorted([*ROOT.glob("*.md"), *ROOT.glob("docs/*.md"), ROOT / "python/READ
 # A name in backquotes that is written as code is: `Type`, `some_name`, `Type::name`.
 CODE = re.compile(r"`((?=[^`]*(?:_|::|[a-z][A-Z])|[A-Z][a-z]+`|[A-Z]\w*<)[A-Za-z]\w*(?:::\w+)*)(?:<[^`]*>)?`")
 # Commands, names of formats and of the system, which these pages have in backquotes.
-WORDS = {"main", "check", "dump", "pack", "find", "serve", "order", "$oid", '{"$oid":..}'}
+WORDS = {"bsonfind find", "bsonwide find", "bsonkit", "main", "check", "dump", "pack", "find", "serve", "order", "$oid", '{"$oid":..}'}
 
 
 def text_of(path: Path) -> str:
