@@ -1,15 +1,12 @@
 -- The numbers of the documents of a dump, collected document by document.
-use Rattle.std.proofs.Common.{◌≡◌, ℕ, ℤ, ◌+◌, ◌<◌, List, [], ◌∷◌, ◌++◌, length, take, drop, map, get_or, Option, Some, None, refl, sym, ap, ap₂, ◌∙◌, subst, append_assoc, append-nil, Bool, true, false, ◌||◌, Result, Ok, Err, OnOk}
+use Rattle.std.proofs.Common.{◌≡◌, ℕ, ℤ, List, [], ◌∷◌, ◌++◌, take, drop, map, Some, None, refl, sym, ap, ◌∙◌, subst, append_assoc, append-nil}
 use Rattle.std.proofs.lemmas.{List.map-append}
 use Rattle.bd_value.specs.Tree.{Doc, fields_of}
-use Rattle.bd_bson_view.specs.Spelling.{valued}
-use Rattle.bd_bson_view.specs.declared.raw_parts.ElementType.{ElementType}
-use Rattle.bd_wide.specs.Numbers.{number_at}
 use Rattle.bd_wide_number.specs.declared.number.Number.{Number}
-use Rattle.bd_wide_rank.specs.{Rank.HaveSame, Rank.is_among, Worth.worth, Worth.worth_if, Worth.worth_of}
+use Rattle.bd_wide_rank.specs.{Rank.HaveSame, Worth.worth, Worth.worth_if, Worth.worth_of}
 use Rattle.bd_wide_rank.proofs.RankLemmas.{same_both, same_second, same_sym, same_trans}
-use Rattle.bd_wide_copy.specs.Dump.{AreJoinedBy, AreNumbersOfAll}
-use Rattle.bd_wide_copy.specs.Numbers.{AddsNumbers, AreNumbersOf, IsWorthOf, field_numbers, document_numbers}
+use Rattle.bd_wide_copy.specs.Dump.{AreNumbersOfAll}
+use Rattle.bd_wide_copy.specs.Numbers.{AreNumbersOf, IsWorthOf, field_numbers, document_numbers}
 use Rattle.bd_wide_copy.specs.inside.Added.{AddsWorths}
 use Rattle.bd_wide_copy.specs.inside.Starts.{frame_size}
 use Rattle.bd_wide_copy.proofs.DumpLemmas.{ended, first_of}
@@ -40,7 +37,7 @@ pushed old now new before number after have one is =
     (same_sym (ws ++ w ∷ old) (w ∷ (ws ++ old)) (same_second ws old w))))
 
 -- the worth of a value is that of its number
-worth_is : IsWorthOf worth_of worth
+pub worth_is : IsWorthOf worth_of worth
 worth_is type value number is = ap worth_if is
 
 -- what is collected from the rest on is collected from all

@@ -1,17 +1,15 @@
 -- The documents of a dump in turn.
-use Rattle.std.proofs.Common.{◌≡◌, ℕ, ℤ, ◌≤◌, Result, Ok, Err, OnOk, List, [], ◌∷◌, ◌++◌, length, take, drop, Some, None, refl, sym, ap, ap₂, ◌∙◌, subst, arith, append_assoc, append-nil, length-append, take_at, drop_at, Bool, true, false, nat_lt, ◌||◌, if◌then◌else◌}
-use Rattle.std.proofs.lemmas.{Bool.Decides.nat_tests, List.take-append-drop, List.map-append}
+use Rattle.std.proofs.Common.{◌≡◌, ℕ, ℤ, ◌≤◌, Result, Ok, Err, OnOk, List, [], ◌∷◌, ◌++◌, length, take, drop, Some, None, refl, sym, ap, ◌∙◌, subst, arith, append_assoc, append-nil, length-append, take_at, drop_at, Bool, true, false, nat_lt, ◌||◌, if◌then◌else◌}
+use Rattle.std.proofs.lemmas.{Bool.Decides.nat_tests, List.take-append-drop}
 use Rattle.bd_value.specs.{Limits.longest_document, Limits.longest_input, Tree.Doc}
 use Rattle.bd_bson_view.specs.Spelling.{IsDocumentBy, valued}
 use Rattle.bd_bson_view.specs.declared.raw_parts.ElementType.{ElementType}
 use Rattle.bd_bson_view.proofs.ValueAtLemmas as values
 use Rattle.bd_bson_check.specs.Dump.{AreJoined, stated_length}
 use Rattle.bd_wide.specs.Rewritten.{Adds}
-use Rattle.bd_wide_number.specs.declared.number.Number.{Number}
 use Rattle.bd_wide_copy.proofs.PlaceLemmas.{framed_number}
 use Rattle.bd_wide_copy.specs.Copy.{IsCopy, int32_of}
-use Rattle.bd_wide_copy.specs.Dump.{coded_documents, AreJoinedBy, AreCopies, IsCopyOfDump, AreNumbersOfAll}
-use Rattle.bd_wide_copy.specs.Numbers.{AddsNumbers, AreNumbersOf, document_numbers}
+use Rattle.bd_wide_copy.specs.Dump.{coded_documents, AreJoinedBy, AreCopies, IsCopyOfDump}
 use Rattle.bd_wide_copy.specs.inside.Starts.{frame_size}
 
 -- ---- the length at the start

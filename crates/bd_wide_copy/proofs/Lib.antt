@@ -8,3 +8,4 @@ pub mod DumpLemmas
 pub mod StartsLemmas
 pub mod ReadingLemmas
 pub mod AddLemmas
+pub mod FewLemmas

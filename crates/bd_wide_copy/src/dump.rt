@@ -27,14 +27,16 @@ pub struct WideDump {
 }
 
 impl WideDump {
-    ghost use Rattle.std.specs.Prelude.{◌↔◌, ℤ, List, FitsSigned, IfOk, IsTrue, None, OnErr, OnOk};
+    ghost use Rattle.std.specs.Prelude.{◌↔◌, ◌^◌, ℤ, List, FitsSigned, IfOk, IsTrue, None, OnErr, OnOk};
     ghost use Rattle.std.specs.Int.{w32};
     ghost use Rattle.bd_value.specs.Tree.{Doc};
     ghost use Rattle.bd_bson_check.specs.Dump.{IsDump};
     ghost use Rattle.bd_bson_check.specs.FirstFault.{fault_under};
     ghost use Rattle.bd_wide.specs.Rewritten.{Adds};
-    ghost use Rattle.bd_wide_copy.specs.Dump.{IsCopyOfDump, AreNumbersOfAll, IsCount, IsDocumentAt, bytes_of};
-    ghost use Rattle.bd_wide_rank.specs.Table.{collected};
+    ghost use Rattle.bd_bson_view.specs.Spelling.{valued};
+    ghost use Rattle.bd_wide_copy.specs.Dump.{AreJoinedBy, IsCopyOfDump, AreNumbersOfAll, IsCount, IsDocumentAt, bytes_of};
+    ghost use Rattle.bd_wide_copy.specs.Numbers.{document_numbers};
+    ghost use Rattle.bd_wide_rank.specs.{Rank.AreDistinct, Rank.HaveSame, Table.collected, Worth.worth};
 
     /// The number of documents. It takes no memory.
     pub fn len(&self) -> u32
@@ -98,6 +100,13 @@ impl WideDump {
         add_all(alloc, &self.bytes, &mut numbers)?;
         Ok(numbers)
     }
+
+    /// A law: the dump has fewer than 2 ^ 30 different numbers, since each takes six bytes or more.
+    pub fn has_few_numbers(&self)
+        ensures { (ds : List Doc) (table : List ℤ) →
+            AreJoinedBy (valued worth) ds (bytes_of self.now) → AreDistinct table →
+            HaveSame table (document_numbers ds) → length table < 2 ^ 30 }
+    {}
 
     /// The bytes that it was read from.
     pub fn into_bytes(self) -> Vec<u8>
