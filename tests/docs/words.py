@@ -55,7 +55,7 @@ WORDS = {
     "seen": ("view_of, visited", ""),
     "gather gathers gathered gathering gatherer": ("buffer, collect", ""),
     # A document's number in its dump is its place; so is where a digit is, and where a filter breaks a rule.
-    "place places placed": ("offset, index, path", "bd_wide_copy bd_bson_dump bd_cursor* bd_index* bd_cli_service* bd_cli_find bd_cli_print bd_wide_find bd_wide_order bd_wide_cli bd_wide_tests bd_wide_text "
+    "place places placed": ("offset, index, path", "bd_wide_copy bd_bson_dump bd_cursor* bd_index* bd_cli_service* bd_cli_find bd_cli_print bd_wide_find bd_wide_order bd_wide_service bd_wide_cli bd_wide_tests bd_wide_text "
                             "bd_query_filter bd_query_tests bd_growth_tests IsPlace PlacePrinter document_place next_place place_texts"),
 }
 # Labels of clauses that are gone, and what to write.

@@ -1,22 +1,16 @@
--- What a session in memory replies is what the machine replies, and the ends of a run of `serve`.
+-- The ends of a run of `serve`, and of a run of what a session represents.
 use Rattle.std.proofs.Common.{◌≡◌, ◌++◌, ℕ, List, [], None, Some, Ok, Err, Option, ap, append-nil, arith, inl, inr, length, refl, subst, sym}
 use Rattle.bd_value.specs.Tree.{Doc}
-use Rattle.bd_cursor_model.specs.Laws.{new_state}
-use Rattle.bd_bson_dump.specs.Collection.{bytes_of, documents}
-use Rattle.bd_bson_dump.specs.declared.collection.Dump.{Dump}
 use Rattle.bd_bson_check.specs.{Fault.fault_view}
 use Rattle.bd_io_device.specs.Devices.{Over, Reader, TakesText, Writer, between, read_words}
 use Rattle.bd_io_device.proofs.DevicesLemmas.{reads_at_least, takes_none}
 use Rattle.bd_io_lines.specs.{Serving.ServesAll, Serving.StopsServing, declared.serving.ServeFault.ServeFault}
-use Rattle.bd_cli_service.specs.ServiceView.{KeepsState, RepliesTo, service_dump, service_state}
-use Rattle.bd_cli_service.specs.Talk.{IsUnchanged, RepliesInText}
-use Rattle.bd_cli_service.specs.declared.service.Service.{Service}
-use Rattle.bd_cli_service.proofs.ServedLemmas.{served, stopped}
+use Rattle.bd_cli_service.proofs.ServedLemmas.{served, served_lacking, served_next, served_unread}
 use Rattle.bd_cli_scan.specs.{declared.input.InputFault.InputFault, declared.output.Status.Status, declared.output.Status.TheVariants.Done, declared.output.Status.TheVariants.Failed}
 use Rattle.bd_cli_files.specs.{Load.FailsToLoad, Load.LoadsDump, Load.ReportsLoadFault}
 use Rattle.bd_cli_scan.specs.Output.{cannot_write, error_line, fault_text, no_memory, output_before, refusal_output}
 use Rattle.bd_cli_scan.specs.Run.{Prints, ReportsMessage}
-use Rattle.bd_cli.specs.Serve.{command_limits, serve_run, talk_run}
+use Rattle.bd_cli.specs.Serve.{command_limits, serve_run, session_run, talk_run}
 use Rattle.bd_cli_scan.specs.declared.input.InputFault.TheVariants as loads
 use Rattle.bd_io_device.specs.declared.reading.ReadFault.TheVariants as reads
 use Rattle.bd_io_lines.specs.declared.serving.ServeFault.TheVariants as faults
@@ -27,38 +21,60 @@ serve_words (faults.Unread fault) = read_words fault
 serve_words faults.NoMemory = no_memory
 serve_words faults.Unwritten = cannot_write
 
-module _ {C : Type 0} (state : C → Reader) (gives : C → Option (List ℕ) → C → Type 0) (old new : C) (out : Over Writer) where
+module _ {C : Type 0} (state : C → Reader) (gives : C → Option (List ℕ) → C → Type 0) (old new : C) {S : Type 0}
+    (replies : S → List ℕ → List ℕ → S → Type 0) (stays : S → S → Type 0) (s t : S) (out : Over Writer) where
   -- each read but the last gives at least one byte, so the limit of bytes comes first
-  never_too_many : (s t : Service) → StopsServing state gives RepliesTo command_limits old new out s t KeepsState (faults.Unread reads.TooManyTurns) → ⊥
-  never_too_many s t (text, u, wrote) =
+  never_too_many : StopsServing state gives replies command_limits old new out s t stays (faults.Unread reads.TooManyTurns) → ⊥
+  never_too_many (text, u, wrote) =
       let each = reads_at_least u.stops.turns old new (u.whole ++ u.rest) u.stops.reads.0 in
       let turns = u.stops.reads.2 in let short = u.cause.1 in omega (arith, each, turns, short)
 
-  module _ (program : List ℕ) (dump : Dump) (status : Status) (s t : Service) (is_new : service_state s ≡ new_state) (is_over : service_dump s ≡ dump) where
-    abbrev PrintsTalk : Over Writer → Type 0
-    PrintsTalk err = Prints program (talk_run state gives old new (bytes_of dump) (documents dump)) out err status
+  module _ (program : List ℕ) (status : Status) where
+    abbrev PrintsReplies : Over Writer → Type 0
+    PrintsReplies err = Prints program (session_run state gives old new replies s stays) out err status
 
-    pub to_the_end : (err : Writer) → (text : List ℕ) × ServesAll state gives RepliesTo command_limits old new s text t × TakesText out text → status ≡ Done
-        → PrintsTalk (between err err)
-    to_the_end err (text, all, wrote) done =
-        inl (output_before text None [], (text, None, (service_state t, rw (is_new, is_over) at (served state gives command_limits old new s text t all)), refl), wrote, inl (takes_none err, done))
+    pub to_the_end : (err : Writer) → (text : List ℕ) × ServesAll state gives replies command_limits old new s text t × TakesText out text → status ≡ Done
+        → PrintsReplies (between err err)
+    to_the_end err (text, all, wrote) done = inl (output_before text None [], (text, None, (t, all), refl), wrote, inl (takes_none err, done))
 
-    pub to_a_fault : (err : Over Writer) (fault : ServeFault) → StopsServing state gives RepliesTo command_limits old new out s t KeepsState fault
-        → ReportsMessage err (error_line program (serve_words fault)) Failed status → PrintsTalk err
-    to_a_fault err fault stops = by_fault fault (λ is. never_too_many s t (subst (λ f. StopsServing state gives RepliesTo command_limits old new out s t KeepsState f) is stops))
-        (rw (is_new, is_over) at (stopped state gives command_limits old new out s t fault stops))
-      where
-        by_fault : (fault : ServeFault) → (fault ≡ faults.Unread reads.TooManyTurns → ⊥)
-            → StopsServing state gives (RepliesInText (bytes_of dump) (documents dump)) command_limits old new out new_state (service_state t) IsUnchanged fault
-            → ReportsMessage err (error_line program (serve_words fault)) Failed status → PrintsTalk err
-        by_fault (faults.Unread fault) few (text, u, wrote) reported = inl (
-          output_before text (Some (read_words fault)) [],
-          (text, Some fault, (λ is. few (ap faults.Unread is), (service_state t, u)), refl),
-          wrote,
-          subst (λ x. ReportsMessage err x Failed status) (sym (append-nil (error_line program (read_words fault)))) reported,
-        )
-        by_fault faults.NoMemory few (text, lacks, wrote) reported = inr (inr (text, (service_state t, lacks), wrote, reported))
-        by_fault faults.Unwritten few (text, piece, next, failed_write) reported = inr (inl (text, piece, (service_state t, next), failed_write, reported))
+    pub to_a_fault : (err : Over Writer) (fault : ServeFault) → StopsServing state gives replies command_limits old new out s t stays fault
+        → ReportsMessage err (error_line program (serve_words fault)) Failed status → PrintsReplies err
+    to_a_fault err (faults.Unread fault) (text, u, wrote) reported = inl (
+      output_before text (Some (read_words fault)) [],
+      (
+        text,
+        Some fault,
+        (λ is. never_too_many (subst (λ f. StopsServing state gives replies command_limits old new out s t stays (faults.Unread f)) is (text, u, wrote)), (t, u)),
+        refl,
+      ),
+      wrote,
+      subst (λ x. ReportsMessage err x Failed status) (sym (append-nil (error_line program (read_words fault)))) reported,
+    )
+    to_a_fault err faults.NoMemory (text, lacks, wrote) reported = inr (inr (text, (t, lacks), wrote, reported))
+    to_a_fault err faults.Unwritten (text, piece, next, failed_write) reported = inr (inl (text, piece, (t, next), failed_write, reported))
+
+-- ---- a session that represents another
+
+-- as in ServedLemmas
+module _ {S T : Type 0} (view : S → T) (Inv : S → Type 0)
+    (Replies : S → List ℕ → List ℕ → S → Type 0) (Represented : T → List ℕ → List ℕ → T → Type 0)
+    (represents : (s t : S) (line text : List ℕ) → Inv s → Replies s line text t → Represented (view s) line text (view t) × Inv t)
+    (Stays : S → S → Type 0) (Same : T → T → Type 0) (stays : (s t : S) → Inv s → Stays s t → Same (view s) (view t)) where
+  -- what a run of a session prints, a run of what it represents prints
+  pub represented_run : {C : Type 0} (state : C → Reader) (gives : C → Option (List ℕ) → C → Type 0) (old new : C) (s : S) → Inv s
+      → (program : List ℕ) (out err : Over Writer) (status : Status) → Prints program (session_run state gives old new Replies s Stays) out err status
+      → Prints program (session_run state gives old new Represented (view s) Same) out err status
+  represented_run state gives old new s fact program out err status (inl (output, (text, None, (t, all), is), wrote, reported)) =
+      inl (output, (text, None, (view t, served view Inv Replies Represented represents state gives command_limits old new s fact text t all), is), wrote, reported)
+  represented_run state gives old new s fact program out err status (inl (output, (text, Some fault, (few, (t, u)), is), wrote, reported)) =
+      let unread = served_unread view Inv Replies Represented represents state gives command_limits old new s fact text t fault u in
+      inl (output, (text, Some fault, (few, (view t, unread)), is), wrote, reported)
+  represented_run state gives old new s fact program out err status (inr (inl (text, piece, (t, next), failed_write, reported))) =
+      let later = served_next view Inv Replies Represented represents state gives command_limits old new s fact text piece t next in
+      inr (inl (text, piece, (view t, later), failed_write, reported))
+  represented_run state gives old new s fact program out err status (inr (inr (text, (t, lacks), wrote, reported))) =
+      let lacking = served_lacking view Inv Replies Represented represents state gives command_limits old new s fact Stays Same stays text t lacks in
+      inr (inr (text, (view t, lacking), wrote, reported))
 
 module _ {program : List ℕ} {C : Type 0} (state : C → Reader) (gives : C → Option (List ℕ) → C → Type 0) (file : Over Reader) where
   -- the file is a dump of these documents

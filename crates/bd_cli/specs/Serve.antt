@@ -24,24 +24,32 @@ IsOutputOfBadFile (Ok bytes) output = (ds : List Doc) × (fault : Fault) × IsDu
 
 -- For the reader of the commands: what its reads may give, and its state before and after.
 module _ {C : Type 0} (state : C → Reader) (gives : C → Option (List ℕ) → C → Type 0) (old new : C) where
-  -- Over a dump of these bytes and documents: the text is the replies to all commands,
-  -- or to those before a line that was not read, for this reason. There are never too many reads.
-  abbrev pub RepliesUpTo : List ℕ → List Doc → List ℕ → Option ReadFault → Type 0
-  RepliesUpTo bytes ds text None =
-      (t : State) × ServesAll state gives (RepliesInText bytes ds) command_limits old new new_state text t
-  RepliesUpTo bytes ds text (Some fault) = (fault ≢ reads.TooManyTurns)
-      × ((t : State) × StopsUnread state gives (RepliesInText bytes ds) command_limits old new new_state text t fault)
+  -- For a session that begins in state s, and the replies that a command may have in a state:
+  module _ {S : Type 0} (replies : S → List ℕ → List ℕ → S → Type 0) (s : S) where
+    -- The text is the replies to all commands, or to those before a line that was not read, for this reason.
+    -- There are never too many reads.
+    abbrev pub RepliesUpTo : List ℕ → Option ReadFault → Type 0
+    RepliesUpTo text None = (t : S) × ServesAll state gives replies command_limits old new s text t
+    RepliesUpTo text (Some fault) = (fault ≢ reads.TooManyTurns)
+        × ((t : S) × StopsUnread state gives replies command_limits old new s text t fault)
 
-  -- A run over a dump of these bytes and documents: a piece is a reply, and is written before a later line is read.
+    -- A run of the session: a piece is a reply, and is written before a later line is read. `stays` says what is
+    -- unchanged if memory runs out.
+    abbrev pub session_run : (S → S → Type 0) → Run
+    session_run stays = record {
+      IsOutput = λ output. (text : List ℕ) × (unread : Option ReadFault) × RepliesUpTo text unread
+          × (output ≡ output_before text (option_map read_words unread) []);
+      IsNext = λ text piece. (t : S) × IsNextReply state gives replies command_limits old new s text piece t;
+      IsBegun = λ text. (t : S) × LacksReply state gives replies command_limits old new stays s text t;
+    }
+
+  -- a run of a new session with these replies
+  abbrev pub talk_run_by : (State → List ℕ → List ℕ → State → Type 0) → Run
+  talk_run_by Replies = session_run Replies new_state IsUnchanged
+
+  -- a run over a dump of these bytes and documents
   abbrev pub talk_run : List ℕ → List Doc → Run
-  talk_run bytes ds = record {
-    IsOutput = λ output. (text : List ℕ) × (unread : Option ReadFault) × RepliesUpTo bytes ds text unread
-        × (output ≡ output_before text (option_map read_words unread) []);
-    IsNext = λ text piece. (t : State)
-        × IsNextReply state gives (RepliesInText bytes ds) command_limits old new new_state text piece t;
-    IsBegun = λ text. (t : State)
-        × LacksReply state gives (RepliesInText bytes ds) command_limits old new IsUnchanged new_state text t;
-  }
+  talk_run bytes ds = talk_run_by (RepliesInText bytes ds)
 
   -- A run of `serve`: it reads its whole file first, and reads no command if that is no dump, or if memory runs out.
   abbrev pub serve_run : Over Reader → Run

@@ -19,7 +19,8 @@
 //! ```
 //!
 //! - `runs`: `run` and `report`.
-//! - `serve`: the command `serve`. `bd_cli_scan` has `dump` and `check`, `bd_cli_files` `pack`, and
+//! - `serve`: the command `serve`; `serve_dump`, over a dump; `reply_to_commands`, with any session. `bd_cli_scan` has `dump` and
+//!   `check`, `bd_cli_files` `pack`, and
 //!   `bd_cli_find` `find`.
 //! - `laws`: what is true of the output of every command.
 #![tactic(auto)]
@@ -32,3 +33,4 @@ pub use bd_cli_args::{FindOptions, Order, USAGE, WordsFault, parse_words};
 pub use bd_cli_scan::Status;
 pub use laws::{check_has_the_status_of_dump, prints_a_prefix, prints_one_thing};
 pub use runs::{PROGRAM, report, run};
+pub use serve::{reply_to_commands, serve_dump};

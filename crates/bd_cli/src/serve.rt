@@ -3,7 +3,7 @@
 ghost use Rattle.bd_io_device.specs.Devices.{over};
 ghost use Rattle.bd_bson_dump.specs.Collection.{bytes_of, documents};
 ghost use Rattle.bd_cli_scan.specs.{Input.ReadsNoFurther, Run.Prints};
-ghost use Rattle.bd_cli.specs.Serve.{serve_run, talk_run};
+ghost use Rattle.bd_cli.specs.Serve.{serve_run, session_run, talk_run};
 
 use bd_bson_dump::Dump;
 use bd_cli_files::load::{load, report_load_fault};
@@ -11,7 +11,7 @@ use bd_cli_scan::output::{report_no_memory, report_read_fault, report_unwritten}
 use bd_cli_scan::{LIMITS, Status};
 use bd_cli_service::Service;
 use bd_io_device::{Input, Output};
-use bd_io_lines::ServeFault;
+use bd_io_lines::{Replier, ServeFault};
 use std::alloc::Global;
 
 /// Reads the whole input, and writes the reply to each command, before a later read of the commands. No command is read if the
@@ -35,8 +35,8 @@ pub(crate) fn serve<F: Input, C: Input, O: Output, E: Output>(
     }
 }
 
-/// Serves the commands over a dump.
-fn serve_dump<C: Input, O: Output, E: Output>(
+/// Writes the reply to each command over the documents of a dump, before a later read of the commands.
+pub fn serve_dump<C: Input, O: Output, E: Output>(
     alloc: Global,
     program: &str,
     dump: Dump,
@@ -49,7 +49,23 @@ fn serve_dump<C: Input, O: Output, E: Output>(
         (over E.state err.old err.new) result }
 {
     let mut service = Service::new(alloc, dump);
-    match bd_io_lines::reply_to_lines(alloc, LIMITS, commands, &mut service, out) {
+    reply_to_commands(alloc, program, &mut service, commands, out, err)
+}
+
+/// Writes what a session replies to each command, before a later read of the commands, and reports what ended it early.
+pub fn reply_to_commands<S: Replier, C: Input, O: Output, E: Output>(
+    alloc: Global,
+    program: &str,
+    session: &mut S,
+    commands: &mut C,
+    out: &mut O,
+    err: &mut E,
+) -> Status
+    ensures { Prints program.now (session_run C.state C.read_gives commands.old commands.new
+        S.replies session.old S.stays) (over O.state out.old out.new)
+        (over E.state err.old err.new) result }
+{
+    match bd_io_lines::reply_to_lines(alloc, LIMITS, commands, session, out) {
         Ok(()) => Status::Done,
         Err(ServeFault::Unread(fault)) => report_read_fault(program, fault, err),
         Err(ServeFault::NoMemory) => report_no_memory(program, err),

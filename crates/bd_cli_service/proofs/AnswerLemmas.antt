@@ -7,7 +7,7 @@ use Rattle.bd_cursor.specs.{SessionView.dump_of, SessionView.state_of, declared.
 use Rattle.bd_cli_service.specs.{Reply.refuses, Reply.line_reply, Reply.reported_refusal, declared.reply.LineRefusal.LineRefusal, declared.reply.Reply.Reply}
 use Rattle.bd_cli_service.specs.{Talk.Answers, Talk.call_in, declared.service.Service.Service}
 use Rattle.bd_cli_service.specs.ServiceView.{KeepsState, RepliesTo, service_dump, service_state}
-use Rattle.bd_cli_service.specs.inside.ServiceView.{IsPerformed}
+use Rattle.bd_cli_service.specs.ServiceView.{IsPerformed}
 use Rattle.bd_cursor_model.specs.Session as machine
 
 pub answered : (old new : Session) (line : List ℕ) (call : machine.Call) (result : Result Reply AllocError)

@@ -5,7 +5,7 @@ use Rattle.bd_cli_command.specs.{Command.Command, CommandOf.command_of}
 use Rattle.bd_cursor_request.specs.Refused.{error_as, then_part}
 use Rattle.bd_cli_service.specs.Reply.{ReportedRefusal, command_refusal}
 use Rattle.bd_cli_service.specs.{Talk.call_in, Talk.call_of, Talk.document_call, Talk.line_document, declared.call.CallFault.CallFault}
-use Rattle.bd_cli_service.specs.inside.ServiceView.{RefusesPart}
+use Rattle.bd_cli_service.specs.ServiceView.{RefusesPart}
 use Rattle.bd_cli_service.specs.declared.call.CallFault.TheVariants as faults
 
 -- what needs a part that is refused is refused for its reason

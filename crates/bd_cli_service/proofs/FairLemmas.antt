@@ -1,5 +1,5 @@
 -- The request in a line has a total order and a limit that can be counted.
-use Rattle.std.proofs.Common.{◌≡◌, ◌≤◌, ℕ, Bool, true, cond, List, Option, Some, None, Result, Ok, Err, refl, subst, arith}
+use Rattle.std.proofs.Common.{◌≡◌, ◌≤◌, ℕ, Bool, true, cond, List, Option, Some, Result, Ok, Err, refl, subst, arith}
 use Rattle.std.proofs.{lemmas.Bool.leb-true, lemmas.Cmp.on_total}
 use Rattle.std.specs.Prelude.{◌&&◌, IfOk, nat_le}
 use Rattle.std.specs.{Option.ok_or, Result.result_ok}

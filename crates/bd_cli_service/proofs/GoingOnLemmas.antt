@@ -1,5 +1,5 @@
 -- Each line has a reply, so a talk can continue.
-use Rattle.std.proofs.Common.{◌≡◌, ℕ, List, [], ◌∷◌, ◌++◌, refl}
+use Rattle.std.proofs.Common.{ℕ, List, [], ◌∷◌, ◌++◌, refl}
 use Rattle.bd_value.specs.Tree.{Doc}
 use Rattle.bd_cursor_model.specs.Session.{State}
 use Rattle.bd_io_lines.specs.Serving.{RepliesInTurn}

@@ -1,4 +1,5 @@
 pub mod MemberLemmas
+pub mod BatchLemmas
 pub mod CallLemmas
 pub mod AnswerLemmas
 pub mod FairLemmas

@@ -1,8 +1,8 @@
 -- The replies of a session, and the document that is printed for each.
-use Rattle.std.specs.Prelude.{ℕ, pos, Bool, true, false, List, [], ◌∷◌, Option, codes, map, option_map}
+use Rattle.std.specs.Prelude.{◌≡◌, ℕ, pos, Bool, true, false, List, [], ◌∷◌, Option, codes, map, option_map}
 use Rattle.std.specs.{List.join_with_byte}
 use Rattle.bd_value.specs.Tree.{Doc, Tree, array, doc, fields_of, items_of, leaf}
-use Rattle.bd_extjson_text.specs.Text.{text}
+use Rattle.bd_extjson_text.specs.Text.{listed, member, object, text}
 use Rattle.bd_cursor_model.specs.Session.{IndexCounts}
 use Rattle.bd_bson_dump.specs.Collection.{documents_at}
 use Rattle.bd_extjson_fault.specs.{declared.json_fault.JsonFault.JsonFault, declared.json_fault.JsonFaultKind.JsonFaultKind}
@@ -69,6 +69,22 @@ reply_document r = (codes "ok", leaf (trees.boolean (is_result r))) ∷ reply_pa
 -- the text of a reply: canonical Extended JSON without white space
 abbrev pub reply_text : LineReply → List ℕ
 reply_text r = text (doc (fields_of (reply_document r)))
+
+-- ---- a batch, by what prints a document
+
+-- These are the texts of the documents at these places, where a text has this property for its place.
+abbrev pub AreTextsAt : (ℕ → List ℕ → Type 0) → List ℕ → List (List ℕ) → Type 0
+AreTextsAt IsText [] texts = texts ≡ []
+AreTextsAt IsText (p ∷ ps) texts =
+    (first : List ℕ) × (rest : List (List ℕ)) × IsText p first × AreTextsAt IsText ps rest × (texts ≡ first ∷ rest)
+
+-- the text of the reply with a batch of documents that have these texts:
+-- the same fields, with whether nothing remains, and the token's text
+abbrev pub given_text : List (List ℕ) → Bool → Option (List ℕ) → List ℕ
+given_text texts ends token = object (member (codes "ok") (text (leaf (trees.boolean true)))
+    ∷ member (codes "documents") (listed texts)
+    ∷ member (codes "end") (text (leaf (trees.boolean ends)))
+    ∷ member (codes "token") (text (text_or_null token)) ∷ [])
 
 -- ---- refusals
 

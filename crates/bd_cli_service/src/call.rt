@@ -9,7 +9,7 @@ ghost use Rattle.bd_cursor.specs.Access.{way_of};
 ghost use Rattle.bd_cli_service.specs.Reply.{path_refusal, session_refusal};
 ghost use Rattle.bd_cursor_request.specs.Refused.{error_as};
 ghost use Rattle.bd_cursor_request.specs.Request.{named_index, request_view, token_part};
-ghost use Rattle.bd_cli_service.specs.inside.ServiceView.{MayRunOut, RefusesPart, session_call};
+ghost use Rattle.bd_cli_service.specs.ServiceView.{MayRunOut, RefusesPart, session_call};
 ghost use Rattle.bd_cli_service.specs.declared.call.CallFault.TheVariants.{NoMemory as no_memory};
 ghost use Rattle.bd_cli_service.specs.Talk.{call_of, hint_path, request_for, way_by};
 
@@ -51,7 +51,7 @@ pub enum CallFault {
 
 /// The call that a command means. For `resume` the token is checked first, then the filter, the sort, the numbers, and the path of
 /// an index.
-pub(crate) fn call_of(alloc: Global, command: Command) -> Result<Call, CallFault>
+pub fn call_of(alloc: Global, command: Command) -> Result<Call, CallFault>
     ensures call { (dump : Dump) →
         IfOk result (λ c. call_of (bytes_of dump) (documents dump) (command_tree command)
         ≡ Ok (session_call dump c)) }
@@ -84,7 +84,7 @@ pub(crate) fn call_of(alloc: Global, command: Command) -> Result<Call, CallFault
 }
 
 /// The request of a search, and how documents are found.
-fn read_search(alloc: Global, find: FindCommand) -> Result<(Request, Choice), CallFault>
+pub fn read_search(alloc: Global, find: FindCommand) -> Result<(Request, Choice), CallFault>
     ensures search { IfOk result
         (λ found. request_for (find_tree find) ≡ Ok (request_view found.0)) }
     ensures way { IfOk result (λ found. way_of found.1 ≡ way_by (hint_tree find.hint)) }
@@ -127,7 +127,7 @@ fn read_path(alloc: Global, text: &str) -> Result<Path, CallFault>
 }
 
 /// The token in a text. It takes no memory.
-fn read_token(text: &str) -> Result<Token, CallFault>
+pub fn read_token(text: &str) -> Result<Token, CallFault>
     ensures token { IfOk result (λ t. token_part text.now ≡ Ok t) }
     ensures fault { IfErr result (RefusesPart (error_as session_refusal (token_part text.now))) }
     ensures known { IfErr result (λ fault. fault ≢ no_memory) }

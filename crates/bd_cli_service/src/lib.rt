@@ -24,19 +24,24 @@
 //! );
 //! ```
 //!
-//! - `service`: `Service`, which replies to a line: `specs/ServiceView.antt`.
-//! - `call`: the session call that a command means.
-//! - `reply`: `Reply` and `LineRefusal`, to match on; `write_reply`, the text of a reply: `specs/Reply.antt`.
+//! - `service`: `Service`, which replies to a line; `command_in`, the command in a document; `perform`, which makes a call:
+//!   `specs/ServiceView.antt`.
+//! - `call`: `call_of`, the session call that a command means; `read_search` and `read_token`, its parts.
+//! - `reply`: `Reply` and `LineRefusal`, to match on; `write_reply`, the text of a reply; `write_refusal`: `specs/Reply.antt`.
+//! - `batch`: `write_batch`, the reply with a batch, by what prints its documents.
 //! - `member`: the pairs of a reply.
 //! - `laws`: what is true of every talk.
 #![tactic(auto)]
 
+mod batch;
 mod call;
 mod laws;
 mod member;
 mod reply;
 mod service;
 
+pub use batch::write_batch;
+pub use call::{Call, CallFault, call_of, read_search, read_token};
 pub use laws::{replies_go_on, talks_keep_to_the_answer, texts_are_talks};
-pub use reply::{LineRefusal, Reply, write_reply};
-pub use service::Service;
+pub use reply::{LineRefusal, Reply, write_refusal, write_reply};
+pub use service::{Service, command_in, perform};

@@ -1,20 +1,18 @@
 //! The values of a reply, and its pairs.
 
-ghost use Rattle.std.specs.Prelude.{◌≡◌, ◌<◌, ◌++◌, ◌∷◌, [], OnErr, OnOk, codes, decimal, if◌then◌else◌, length, map};
+ghost use Rattle.std.specs.Prelude.{◌≡◌, ◌++◌, ◌∷◌, [], OnErr, OnOk, codes, decimal, map, option_map};
 ghost use Rattle.std.specs.Io.{StartsWith};
 ghost use Rattle.bd_value.specs.Tree.{boolean, doc, fields_of, leaf};
-ghost use Rattle.bd_bson_dump.specs.Collection.{documents, document_at, documents_at};
 ghost use Rattle.bd_extjson_text.specs.Text.{member, quoted, text};
-ghost use Rattle.bd_cli_service.specs.Reply.{documents_value};
+ghost use Rattle.bd_cursor_request.specs.Results.{text_or_null};
 ghost use Rattle.bd_cli_service.specs.inside.Reply.{member_pair, reply_value};
 
-use bd_bson_dump::Dump;
-use bd_extjson_text::{write_node, write_number, write_path, write_string};
+use bd_extjson_text::{write_number, write_path, write_string};
 use bd_value::NoMemory;
 
 /// A value of a reply.
 #[derive(Clone, Copy)]
-pub(crate) enum Field<'a, 'b, 'c> {
+pub(crate) enum Field<'a> {
     Null,
     Truth(bool),
     /// An Int32.
@@ -24,15 +22,23 @@ pub(crate) enum Field<'a, 'b, 'c> {
     Text(&'a str),
     /// The text of these names, joined by dots.
     Names(&'a [String]),
-    /// The documents of a dump with these numbers.
-    Documents(&'b Dump, &'c [u32]),
+}
+
+/// A text, or null if there is none.
+pub(crate) fn text_or_null<'a>(text: Option<&'a str>) -> Field<'a>
+    ensures { reply_value result ≡ text_or_null (option_map (λ t. t.now) text.entry) }
+{
+    match text {
+        Some(text) => Field::Text(text),
+        None => Field::Null,
+    }
 }
 
 /// Appends a document: whether there is a result, and these pairs.
 #[tactic(auto, using(bd_value::proofs::PrefixLemmas::prefixes))]
 pub(crate) fn write_members(
     ok: bool,
-    members: &[(&str, Field<'_, '_, '_>)],
+    members: &[(&str, Field<'_>)],
     out: &mut Vec<u8>,
 ) -> Result<(), NoMemory>
     ensures ok { OnOk result (out.new.items ≡ out.old.items
@@ -50,7 +56,7 @@ pub(crate) fn write_members(
 
 /// Appends a comma and a pair.
 #[tactic(auto, using(bd_value::proofs::PrefixLemmas::prefixes))]
-fn write_member(name: &str, value: Field<'_, '_, '_>, out: &mut Vec<u8>) -> Result<(), NoMemory>
+pub(crate) fn write_member(name: &str, value: Field<'_>, out: &mut Vec<u8>) -> Result<(), NoMemory>
     ensures ok { OnOk result (out.new.items
         ≡ out.old.items ++ 44 ∷ member name.now (text (reply_value value.entry))) }
     ensures err { OnErr result (StartsWith out.new.items out.old.items) }
@@ -63,7 +69,7 @@ fn write_member(name: &str, value: Field<'_, '_, '_>, out: &mut Vec<u8>) -> Resu
 
 /// Appends a value.
 #[tactic(auto, using(bd_value::proofs::PrefixLemmas::prefixes), unfolding(bd_extjson_text::specs::Text::scalar_text))]
-fn write_field(value: Field<'_, '_, '_>, out: &mut Vec<u8>) -> Result<(), NoMemory>
+fn write_field(value: Field<'_>, out: &mut Vec<u8>) -> Result<(), NoMemory>
     ensures ok { OnOk result (out.new.items ≡ out.old.items ++ text (reply_value value.entry)) }
     ensures err { OnErr result (StartsWith out.new.items out.old.items) }
 {
@@ -74,7 +80,6 @@ fn write_field(value: Field<'_, '_, '_>, out: &mut Vec<u8>) -> Result<(), NoMemo
         Field::Count(count) => write_wrapped(b"{\"$numberLong\":", count, out),
         Field::Text(text) => write_string(text, out),
         Field::Names(names) => write_path(names, out),
-        Field::Documents(dump, places) => write_array(dump, places, out),
     }
 }
 
@@ -103,37 +108,4 @@ fn write_wrapped(lead: &[u8], number: u64, out: &mut Vec<u8>) -> Result<(), NoMe
     write_number(number, out)?;
     out.extend_from_slice(b"\"}")?;
     Ok(())
-}
-
-/// Appends the documents of a dump with these numbers, as an array. A number after the last document has none.
-#[tactic(auto, using(bd_value::proofs::PrefixLemmas::prefixes))]
-fn write_array(dump: &Dump, places: &[u32], out: &mut Vec<u8>) -> Result<(), NoMemory>
-    ensures ok { OnOk result (out.new.items
-        ≡ out.old.items ++ text (documents_value (documents_at (documents dump.now) places.now))) }
-    ensures err { OnErr result (StartsWith out.new.items out.old.items) }
-{
-    out.push(b'[')?;
-    let mut later = false;
-    for place in places {
-        if *place < dump.len() {
-            write_element(dump, *place, later, out)?;
-            later = true;
-        }
-    }
-    out.push(b']')?;
-    Ok(())
-}
-
-/// Appends a document, after a comma unless it is the first.
-#[tactic(auto, using(bd_value::proofs::PrefixLemmas::prefixes))]
-fn write_element(dump: &Dump, place: u32, later: bool, out: &mut Vec<u8>) -> Result<(), NoMemory>
-    requires { place < length (documents dump.now) }
-    ensures ok { OnOk result (out.new.items ≡ out.old.items
-        ++ ((if later then 44 ∷ [] else []) ++ text (document_at (documents dump.now) place))) }
-    ensures err { OnErr result (StartsWith out.new.items out.old.items) }
-{
-    if later {
-        out.push(b',')?;
-    }
-    write_node(dump.document(place).value(), out)
 }

@@ -11,11 +11,13 @@ ghost use Rattle.bd_cli_service.specs.Reply.{explains, filter_refusal, given_rep
 ghost use Rattle.bd_cli_service.specs.Reply.{reply_text, reported_refusal};
 ghost use Rattle.bd_cli_service.specs.inside.Reply.{reply_value};
 
-use crate::member::{Field, write_members};
+use crate::batch::append_batch;
+use crate::member::{Field, text_or_null, write_members};
 use bd_bson_dump::Dump;
 use bd_cli_command::CommandFault;
+use bd_cli_print::NamedPrinter;
 use bd_cursor::{Explain, Plan};
-use bd_cursor_request::{Batch, Made, Refused, Token};
+use bd_cursor_request::{Batch, Made, Refused};
 use bd_extjson_fault::{JsonFault, JsonFaultKind};
 use bd_path::PathFault;
 use bd_query_filter::FilterFault;
@@ -87,7 +89,7 @@ fn append_reply(
     match reply {
         Reply::Done => write_members(true, &[], out),
         Reply::Opened(id) => write_members(true, &[("cursor", Field::Count(*id))], out),
-        Reply::Gave(batch) => append_batch(alloc, dump, batch, out),
+        Reply::Gave(batch) => append_batch(alloc, &NamedPrinter, dump, batch, out),
         Reply::Made(made) => append_made(*made, out),
         Reply::Explained(explanation) => append_explanation(explanation, out),
         Reply::Refused(refusal) => append_refusal(refusal, out),
@@ -106,47 +108,6 @@ fn append_made(made: Made, out: &mut Vec<u8>) -> Result<(), NoMemory>
         ("multikey", Field::Truth(made.multikey)),
     ];
     write_members(true, &members, out)
-}
-
-/// Appends the reply of a batch.
-#[tactic(auto, using(bd_value::proofs::PrefixLemmas::prefixes))]
-fn append_batch(
-    alloc: Global,
-    dump: &Dump,
-    batch: &Batch,
-    out: &mut Vec<u8>,
-) -> Result<(), NoMemory>
-    ensures ok { OnOk result (out.new.items
-        ≡ out.old.items ++ reply_text (given_reply (documents dump.now) batch.now)) }
-    ensures err { OnErr result (StartsWith out.new.items out.old.items) }
-{
-    let token = token_text(alloc, batch.token)?;
-    let members = [
-        ("documents", Field::Documents(dump, &batch.places)),
-        ("end", Field::Truth(batch.end)),
-        ("token", text_or_null(token.as_deref())),
-    ];
-    write_members(true, &members, out)
-}
-
-/// The text of a token, if any.
-fn token_text(alloc: Global, token: Option<Token>) -> Result<Option<String>, NoMemory>
-    ensures { IfOk result (λ text. option_map string_bytes text ≡ option_map token_text token) }
-{
-    match token {
-        Some(token) => Ok(Some(token.text(alloc)?)),
-        None => Ok(None),
-    }
-}
-
-/// A text, or null if there is none.
-fn text_or_null<'a>(text: Option<&'a str>) -> Field<'a, 'static, 'static>
-    ensures { reply_value result ≡ text_or_null (option_map (λ t. t.now) text.entry) }
-{
-    match text {
-        Some(text) => Field::Text(text),
-        None => Field::Null,
-    }
 }
 
 /// Appends the reply that says how documents are found.
@@ -193,7 +154,28 @@ fn append_refusal(refusal: &LineRefusal, out: &mut Vec<u8>) -> Result<(), NoMemo
     }
 }
 
-/// Appends the reply of a refusal that has no position.
+/// Appends the reply of a refusal that has no position: the layer that refuses, the number and the message of the reason.
+///
+/// On `NoMemory`, `out` is unchanged.
+pub fn write_refusal(
+    layer: &'static str,
+    number: u32,
+    words: &'static str,
+    out: &mut Vec<u8>,
+) -> Result<(), NoMemory>
+    ensures ok { OnOk result (out.new.items ≡ out.old.items ++ reply_text
+        (refuses (record { layer = layer.now; number = number; words = words.now; place = [] }))) }
+    ensures err { OnErr result (out.new.items ≡ out.old.items) }
+{
+    let before = out.len();
+    let answer = append_reason(layer, number, words, out);
+    if answer.is_err() {
+        out.truncate(before);
+    }
+    answer
+}
+
+/// The same, but after an error a part may remain.
 #[tactic(auto, using(bd_value::proofs::PrefixLemmas::prefixes))]
 fn append_reason(
     layer: &'static str,
@@ -230,7 +212,7 @@ fn append_json_fault(fault: JsonFault, out: &mut Vec<u8>) -> Result<(), NoMemory
 }
 
 /// The byte of a fault in a text; a text as a whole has none.
-fn json_byte(fault: JsonFault) -> Field<'static, 'static, 'static>
+fn json_byte(fault: JsonFault) -> Field<'static>
     ensures { reply_value result ≡ json_fault_byte fault.kind fault.at }
 {
     match fault.kind {

@@ -10,10 +10,8 @@ ghost use Rattle.bd_cursor.specs.SessionView.{dump_of};
 ghost use Rattle.bd_io_lines.specs.Serving.{RunsOutAt};
 ghost use Rattle.bd_cli_command.specs.{Command.command_tree, CommandOf.command_of};
 ghost use Rattle.bd_cli_service.specs.Reply.{command_refusal, line_reply};
-ghost use Rattle.bd_cli_service.specs.ServiceView.{KeepsState, RepliesTo};
-ghost use Rattle.bd_cli_service.specs.inside.ServiceView.{IsAnswered, IsPerformed, RefusesPart};
-ghost use Rattle.bd_cli_service.specs.ServiceView.{service_dump, service_state};
-ghost use Rattle.bd_cli_service.specs.inside.ServiceView.{session_call};
+ghost use Rattle.bd_cli_service.specs.ServiceView.{IsPerformed, KeepsState, RefusesPart, RepliesTo, service_dump, service_state, session_call};
+ghost use Rattle.bd_cli_service.specs.inside.ServiceView.{IsAnswered};
 ghost use Rattle.bd_cli_service.specs.Talk.{Answers, call_in, line_document};
 
 use crate::call::{Call, CallFault, call_of};
@@ -110,7 +108,7 @@ fn read_line(alloc: Global, line: &[u8]) -> Result<Document, CallFault>
 }
 
 /// The command that a document means.
-fn command_in(alloc: Global, document: &Document) -> Result<Command, CallFault>
+pub fn command_in(alloc: Global, document: &Document) -> Result<Command, CallFault>
     ensures command { IfOk result (λ c. command_of (pairs document.now) ≡ Ok (command_tree c)) }
     ensures fault { IfErr result
         (RefusesPart (error_as command_refusal (command_of (pairs document.now)))) }
@@ -123,7 +121,7 @@ fn command_in(alloc: Global, document: &Document) -> Result<Command, CallFault>
 }
 
 /// Makes a call. It fails only if memory runs out, and then the session is unchanged.
-fn perform(session: &mut Session, call: Call) -> Result<Reply, NoMemory>
+pub fn perform(session: &mut Session, call: Call) -> Result<Reply, NoMemory>
     ensures performs { IsPerformed
         (session_call (dump_of session.old) call) session.old result session.new }
 {

@@ -1,6 +1,7 @@
 //! Replies made by hand, which no talk has.
 use crate::samples::three;
-use bd_cli_service::{Reply, write_reply};
+use bd_cli_print::NamedPrinter;
+use bd_cli_service::{Reply, write_batch, write_refusal, write_reply};
 use bd_cursor::{Explain, Plan};
 use bd_cursor_request::{Batch, Made};
 use std::alloc::Global;
@@ -54,5 +55,32 @@ fn a_batch_without_a_token(rt: HostRuntime) -> Result<(), Fail> {
     };
     let wanted = r#"{"ok":true,"documents":[{}],"end":true,"token":null}"#;
     assert!(rt; is_reported(rt.alloc(), &Reply::Gave(batch), wanted)?);
+    Ok(())
+}
+
+/// The third document and the first, in that order; there is no eighth one.
+#[test]
+fn a_batch_by_a_printer(rt: HostRuntime) -> Result<(), Fail> {
+    let alloc = rt.alloc();
+    let dump = three(alloc)?;
+    let batch = Batch {
+        places: Vec::from_slice(alloc, &[2, 0, 7])?,
+        token: None,
+        end: false,
+    };
+    let mut text = Vec::from_slice(alloc, b"x")?;
+    write_batch(alloc, &NamedPrinter, &dump, &batch, &mut text)?;
+    let wanted =
+        r#"x{"ok":true,"documents":[{"a":true,"b":"\""},{"a":{"$numberInt":"1"}}],"end":false,"token":null}"#;
+    assert!(rt; text.as_slice() == wanted.as_bytes());
+    Ok(())
+}
+
+#[test]
+fn a_refusal_of_another_layer(rt: HostRuntime) -> Result<(), Fail> {
+    let mut text = Vec::from_slice(rt.alloc(), b"x")?;
+    write_refusal("numbers", 1, "too many", &mut text)?;
+    let wanted = r#"x{"ok":false,"layer":"numbers","number":{"$numberInt":"1"},"text":"too many"}"#;
+    assert!(rt; text.as_slice() == wanted.as_bytes());
     Ok(())
 }

@@ -2,13 +2,10 @@
 use Rattle.std.specs.Prelude.{ℕ, pos, List, map, string_bytes}
 use Rattle.std.specs.{Borrow.Bor, List.join_with_byte}
 use Rattle.bd_value.specs.Tree.{Pair, Tree, leaf}
-use Rattle.bd_extjson_text.specs.Text.{text}
-use Rattle.bd_bson_dump.specs.Collection.{documents, documents_at}
 use Rattle.bd_cursor_request.specs.Results.{count_value}
 use Rattle.bd_cli_service.specs.declared.{member.Field.Field}
 use Rattle.bd_value.specs.Tree as trees
 use Rattle.bd_cli_service.specs.declared.member.Field.TheVariants as fields
-use Rattle.bd_cli_service.specs.Reply.{documents_value}
 
 -- ---- replies in memory
 
@@ -20,7 +17,6 @@ reply_value (fields.Number n) = leaf (trees.int32 (pos n))
 reply_value (fields.Count n) = count_value n
 reply_value (fields.Text s) = leaf (trees.text s.now)
 reply_value (fields.Names names) = leaf (trees.text (join_with_byte 46 (map string_bytes names.now)))
-reply_value (fields.Documents dump places) = documents_value (documents_at (documents dump.now) places.now)
 
 -- the name and the value of a field of a reply in memory
 abbrev pub member_pair : Bor (List ℕ) × Field → Pair

@@ -1,32 +1,16 @@
-use Rattle.std.proofs.Common.{refl}
+use Rattle.std.proofs.Common.{◌≡◌}
+use Rattle.bd_bson_dump.specs.Collection.{bytes_of, documents}
 use Rattle.bd_io_device.specs.Devices.{over}
-use Rattle.bd_cli.proofs.ServeLemmas.{to_a_fault, to_the_end}
-use Rattle.bd_io_lines.specs.declared.serving.ServeFault.TheVariants as faults
+use Rattle.bd_cli_service.specs.ServiceView.{KeepsState, RepliesTo, service_dump, service_state}
+use Rattle.bd_cli_service.specs.Talk.{IsUnchanged, RepliesInText}
+use Rattle.bd_cli_service.proofs.ServedLemmas.{machine_replies}
+use Rattle.bd_cli.proofs.ServeLemmas.{represented_run}
 use Rattle.bd_cli.proofs.serve.serve_dump.Goals as goal
-
-pub returns-in-Ok : goal.returns-in-Ok
-returns-in-Ok g c =
-    to_the_end g.C.Input.state g.C.Input.read_gives c.args.commands.now c.reply_to_lines.new.reader (over g.O.Output.state c.args.out.now c.reply_to_lines.new.out)
-    c.args.program.now c.args.dump _ c.new-service.result c.reply_to_lines.new.session c.new-service.ensures.state c.new-service.ensures.dump
-    (g.E.Output.state c.args.err.now) c.in-Ok.ensures.serves refl
-
-pub returns-in-Err-Unread : goal.returns-in-Err-Unread
-returns-in-Err-Unread g c =
-    to_a_fault g.C.Input.state g.C.Input.read_gives c.args.commands.now c.reply_to_lines.new.reader (over g.O.Output.state c.args.out.now c.reply_to_lines.new.out)
-    c.args.program.now c.args.dump _ c.new-service.result c.reply_to_lines.new.session c.new-service.ensures.state c.new-service.ensures.dump
-    (over g.E.Output.state c.args.err.now c.report_read_fault.new.err) (faults.Unread c.in-Err-Unread.fault)
-    (rw c.in-Err-Unread.field-0-is at c.in-Err-Unread.ensures.stops) c.report_read_fault.ensures
-
-pub returns-in-Err-NoMemory : goal.returns-in-Err-NoMemory
-returns-in-Err-NoMemory g c =
-    to_a_fault g.C.Input.state g.C.Input.read_gives c.args.commands.now c.reply_to_lines.new.reader (over g.O.Output.state c.args.out.now c.reply_to_lines.new.out)
-    c.args.program.now c.args.dump _ c.new-service.result c.reply_to_lines.new.session c.new-service.ensures.state c.new-service.ensures.dump
-    (over g.E.Output.state c.args.err.now c.report_no_memory.new.err) faults.NoMemory
-    (rw c.in-Err-NoMemory.field-0-is at c.in-Err-NoMemory.ensures.stops) c.report_no_memory.ensures
 
 pub returns : goal.returns
 returns g c =
-    to_a_fault g.C.Input.state g.C.Input.read_gives c.args.commands.now c.reply_to_lines.new.reader (over g.O.Output.state c.args.out.now c.reply_to_lines.new.out)
-    c.args.program.now c.args.dump _ c.new-service.result c.reply_to_lines.new.session c.new-service.ensures.state c.new-service.ensures.dump
-    (over g.E.Output.state c.args.err.now c.report_unwritten.new.err) faults.Unwritten
-    (rw c.in-Err-Unwritten.field-0-is at c.in-Err-Unwritten.ensures.stops) c.report_unwritten.ensures
+    rw c.new-service.ensures.state at (represented_run service_state (λ s. service_dump s ≡ c.args.dump) RepliesTo (RepliesInText (bytes_of c.args.dump) (documents c.args.dump))
+    (λ s t line text. machine_replies c.args.dump s t line text) KeepsState IsUnchanged (λ s t fact same. same)
+    g.C.Input.state g.C.Input.read_gives c.args.commands.now c.reply_to_commands.new.commands c.new-service.result c.new-service.ensures.dump
+    c.args.program.now (over g.O.Output.state c.args.out.now c.reply_to_commands.new.out) (over g.E.Output.state c.args.err.now c.reply_to_commands.new.err) _
+    c.reply_to_commands.ensures)

@@ -1,5 +1,5 @@
 use Rattle.bd_cursor.specs.SessionView.{dump_of}
-use Rattle.bd_cli_service.specs.inside.ServiceView.{session_call}
+use Rattle.bd_cli_service.specs.ServiceView.{session_call}
 use Rattle.bd_cli_service.proofs.AnswerLemmas.{answered, turned_away}
 use Rattle.bd_cli_service.proofs.service.Service.reply_to.Goals as goal
 
