@@ -20,7 +20,8 @@ use Rattle.bd_wide_order.specs.{Query.renumber_request, Ranks.TypesAlike, Ranks.
 use Rattle.bd_wide_query.specs.Coded.{coded_query, valued_query}
 use Rattle.bd_wide_find.specs.Types.{fields_are_alike}
 use Rattle.bd_wide_find.specs.Find.{IsNoRequest, IsRequest, request_by_value, types_message}
-use Rattle.bd_wide_find.specs.inside.Question.{CopiesDump, IsCrowded, ReportsAs}
+use Rattle.bd_wide_find.specs.Coded.{CopiesDump, IsCrowded}
+use Rattle.bd_wide_find.specs.Fault.{ReportsAs}
 use Rattle.bd_wide_query.specs.Nan.{beside_nan}
 use Rattle.bd_wide_query.proofs.AlikeLemmas.{alike_back, alike_kept}
 use Rattle.bd_wide_find.proofs.TypesLemmas.{alike_renumbered}

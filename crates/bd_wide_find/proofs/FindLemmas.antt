@@ -26,8 +26,8 @@ use Rattle.bd_wide_copy.specs.{Copy.int32_of, Dump.coded_documents}
 use Rattle.bd_wide_order.specs.{Query.renumber_request, Ranks.TypesAlike, Ranks.table_codes, Renumber.DocumentsAreOf}
 use Rattle.bd_wide_find.specs.Find.{FindCase, IsAccepted, case_run, wide_find_run}
 use Rattle.bd_wide_find.specs.Find as cases
-use Rattle.bd_wide_find.specs.inside.Load.{FailsToLoadWide}
-use Rattle.bd_wide_find.specs.inside.Question.{IsReported, ReportsAs}
+use Rattle.bd_wide_find.specs.Load.{FailsToLoadWide}
+use Rattle.bd_wide_find.specs.Fault.{IsReported, ReportsAs}
 use Rattle.bd_wide_find.proofs.AnswerLemmas.{coded_answers}
 
 module _ {program : List ℕ} (options : FindOptions) (file : Over Reader) where

@@ -13,7 +13,9 @@ use Rattle.bd_wide_copy.specs.Dump.{AreDocuments}
 use Rattle.bd_wide_substitute.specs.Both.{IsRead}
 use Rattle.bd_wide_find.specs.Find.{IsNoRequest, IsRefused, IsRefusedOver, query_text}
 use Rattle.bd_wide_find.specs.declared.coded.Coded.{Coded}
-use Rattle.bd_wide_find.specs.inside.Question.{CopiesDump, IsTableOf, ReportsAs, SearchesBy, SearchesCopy}
+use Rattle.bd_wide_find.specs.Coded.{CopiesDump, IsTableOf}
+use Rattle.bd_wide_find.specs.Fault.{ReportsAs}
+use Rattle.bd_wide_find.specs.inside.Question.{SearchesBy, SearchesCopy}
 
 -- the parts of a document are its pairs
 pub parts_are : (d ps : Doc) → AreParts (doc (fields_of d)) ps → ps ≡ d

@@ -20,18 +20,20 @@ use Rattle.bd_wide_order.specs.{Query.renumber_request, Ranks.table_codes}
 use Rattle.bd_wide_find.specs.{Find.IsAccepted, Find.IsRequestOver, Find.IsRefusedOver, Find.request_by_value, Find.wide_find_run, Printer.IsWideText}
 use Rattle.bd_wide_find.specs.Find as cases
 use Rattle.bd_wide_find.specs.declared.{coded.Coded.Coded, question.Question.Question}
-use Rattle.bd_wide_find.specs.inside.Question.{ReadsOptions, CopiesDump, IsReported, ReportsAs, SearchesCopy}
+use Rattle.bd_wide_find.specs.Coded.{CopiesDump}
+use Rattle.bd_wide_find.specs.Fault.{IsReported, ReportsAs}
+use Rattle.bd_wide_find.specs.inside.Question.{ReadsOptions, SearchesCopy}
 use Rattle.bd_wide_find.proofs.{FindLemmas.coded_runs, FindLemmas.few_documents, FindLemmas.of_case, FindLemmas.reports_fault}
 use Rattle.bd_wide_query.proofs.AlikeLemmas.{alike_kept}
 use Rattle.bd_wide_find.proofs.NumberLemmas.{numbers_are_of}
 
 -- ---- how many documents
 
-coded_count : (c : ℤ → Scalar) (ds : List Doc) → length (coded_documents c ds) ≡ length ds
+pub coded_count : (c : ℤ → Scalar) (ds : List Doc) → length (coded_documents c ds) ≡ length ds
 coded_count c [] = refl
 coded_count c (d ∷ ds) = omega (arith, coded_count c ds)
 
-count_is : (ds : List Doc) (bytes : List ℕ) → AreJoinedBy (valued worth) ds bytes → IsCount bytes (length ds)
+pub count_is : (ds : List Doc) (bytes : List ℕ) → AreJoinedBy (valued worth) ds bytes → IsCount bytes (length ds)
 count_is ds bytes are = λ w es joined.
     let le : length bytes ≤ length bytes = omega arith in
     sym (starts_count worth ds bytes (length bytes) 0 are le) ∙ starts_count w es bytes (length bytes) 0 joined le

@@ -1,4 +1,7 @@
+pub mod Coded
+pub mod Fault
 pub mod Find
+pub mod Load
 pub mod Printer
 pub mod Types
 pub mod inside

@@ -9,7 +9,9 @@ ghost use Rattle.bd_wide_copy.specs.Dump.{AreDocuments, bytes_of};
 ghost use Rattle.bd_wide_order.specs.{Query.renumber_request, Ranks.table_codes};
 ghost use Rattle.bd_wide_query.specs.Nan.{beside_nan as beside_nan_of};
 ghost use Rattle.bd_wide_find.specs.Find.{IsNoRequest, IsRefusedOver};
-ghost use Rattle.bd_wide_find.specs.inside.Question.{CopiesDump, IsCrowded, IsTableOf, ReportsAs, SearchesBy, SearchesCopy};
+ghost use Rattle.bd_wide_find.specs.Coded.{CopiesDump, IsCrowded, IsTableOf};
+ghost use Rattle.bd_wide_find.specs.Fault.{ReportsAs};
+ghost use Rattle.bd_wide_find.specs.inside.Question.{SearchesBy, SearchesCopy};
 
 use crate::types::takes_types_alike;
 use bd_bson_dump::{Dump, read_dump};
@@ -50,7 +52,11 @@ pub(crate) fn code(
 }
 
 /// The distinct numbers of a dump.
-fn table_of(alloc: Global, dump: &WideDump) -> Result<Table, SearchFault>
+///
+/// # Errors
+/// - `Message`: they are too many.
+/// - `NoMemory`: memory ran out.
+pub fn table_of(alloc: Global, dump: &WideDump) -> Result<Table, SearchFault>
     requires { AreDocuments (bytes_of dump.now) }
     ensures table { IfOk result (λ t. IsTableOf (bytes_of dump.now) (worths t)) }
     ensures fault { IfErr result (ReportsAs (IsCrowded (bytes_of dump.now))) }
@@ -98,7 +104,7 @@ fn coded_search(
 }
 
 /// The request with codes that is right beside NaN.
-fn beside_nan(alloc: Global, request: Request, table: &Table) -> Result<Request, NoMemory>
+pub fn beside_nan(alloc: Global, request: Request, table: &Table) -> Result<Request, NoMemory>
     ensures { let codes = table_codes (worths table.now) in
         (r : requests.Request) (text : List ℕ) →
         request_view request ≡ renumber_request codes text r → IfOk result (λ request.
@@ -132,7 +138,7 @@ const NOT_A_DOCUMENT: JsonFault = JsonFault {
 const TYPES: &str = "query: the types of numbers are not told apart here";
 
 /// The copy of a dump, with the codes of the numbers of a table.
-fn coded_copy(alloc: Global, dump: &WideDump, table: &Table) -> Result<Dump, NoMemory>
+pub fn coded_copy(alloc: Global, dump: &WideDump, table: &Table) -> Result<Dump, NoMemory>
     requires { AreDocuments (bytes_of dump.now) }
     ensures { IfOk result (CopiesDump (bytes_of dump.now) (worths table.now)) }
 {

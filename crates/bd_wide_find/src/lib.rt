@@ -29,8 +29,8 @@
 //!
 //! - `find`: the command, over any devices: `specs/Find.antt`.
 //! - `question`: what its options ask.
-//! - `load`: a dump of all types in memory.
-//! - `coded`: the search with codes, and the copy that is searched.
+//! - `load`: `load_wide`, a dump of all types in memory: `specs/Load.antt`.
+//! - `coded`: the search with codes, and the copy that is searched: `specs/Coded.antt`.
 //! - `types`: whether a query distinguishes the types of numbers: `specs/Types.antt`.
 //! - `printer`: `WidePrinter`, which prints the documents of the dump: `specs/Printer.antt`.
 //! - `laws`: a request with codes selects of the copy what the request by value selects of the documents.
@@ -44,5 +44,8 @@ mod printer;
 mod question;
 mod types;
 
+pub use coded::{beside_nan, coded_copy, table_of};
 pub use laws::coded_copies_answer_by_value;
+pub use load::load_wide;
 pub use printer::WidePrinter;
+pub use types::takes_types_alike;

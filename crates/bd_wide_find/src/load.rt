@@ -3,7 +3,7 @@
 ghost use Rattle.std.specs.Prelude.{IfErr, IfOk};
 ghost use Rattle.bd_io_device.specs.Devices.{over};
 ghost use Rattle.bd_cli_scan.specs.Input.{ReadsNoFurther};
-ghost use Rattle.bd_wide_find.specs.inside.Load.{FailsToLoadWide, LoadsWide};
+ghost use Rattle.bd_wide_find.specs.Load.{FailsToLoadWide, LoadsWide};
 
 use bd_cli_scan::output::is_want_of_memory;
 use bd_cli_scan::{InputFault, read_input};
@@ -17,7 +17,7 @@ use std::alloc::Global;
 ///
 /// - `Unread`: the input was not read completely, and no read is made after a failed one; or memory for the dump ran out.
 /// - `Faulty`: the first fault of the first document that has one.
-pub(crate) fn load_wide<R: Input>(alloc: Global, input: &mut R) -> Result<WideDump, InputFault>
+pub fn load_wide<R: Input>(alloc: Global, input: &mut R) -> Result<WideDump, InputFault>
     ensures loaded { IfOk result (LoadsWide (over R.state input.old input.new)) }
     ensures fault { IfErr result (FailsToLoadWide (over R.state input.old input.new)) }
     ensures stops_reading { ReadsNoFurther R.read_gives input.old input.new }

@@ -15,7 +15,7 @@ use bd_wide_query::types_alike;
 
 /// Whether a query, which has this filter with codes, takes the types of numbers alike: each `$type` names all four, or none. It takes
 /// no memory.
-pub(crate) fn takes_types_alike(query: &Document, filter: &Filter) -> bool
+pub fn takes_types_alike(query: &Document, filter: &Filter) -> bool
     ensures alike { IsTrue result → (fields_are_alike (fields_of (pairs query.now)) ≡ true)
         × TypesAlike (filter_tree filter.now) }
     ensures unlike { result ≡ false → (fields_are_alike (fields_of (pairs query.now)) ≡ false)
