@@ -1,0 +1,3 @@
+pub mod CallLemmas
+pub mod ServiceLemmas
+pub mod ServeLemmas

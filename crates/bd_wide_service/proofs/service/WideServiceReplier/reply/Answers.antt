@@ -1,0 +1,33 @@
+use Rattle.std.proofs.Common.{inl, refl}
+use Rattle.bd_cursor.specs.SessionView.{dump_of}
+use Rattle.bd_cli_service.specs.Reply.{reported_refusal}
+use Rattle.bd_wide_service.specs.Call.{types_refusal}
+use Rattle.bd_wide_service.proofs.ServiceLemmas.{on_err, on_ok, over_copy, refused_line}
+use Rattle.bd_wide_service.proofs.service.WideServiceReplier.reply.Goals as goal
+
+pub returns-in-Ok-clause-out_of_memory : goal.returns-in-Ok-clause-out_of_memory
+returns-in-Ok-clause-out_of_memory c = on_err c.answer.result (λ lacks. inl (c.args.command.now, lacks.1)) c.answer.ensures.err
+
+pub returns-in-Err-Refused-clause-replies : goal.returns-in-Err-Refused-clause-replies
+returns-in-Err-Refused-clause-replies c =
+    let s = c.args.self.now in
+    on_ok c.refuse.result
+    (λ added. (
+      _,
+      added,
+      refused_line s c.args.command.now _ (reported_refusal c.in-Err-Refused.refusal)
+          (λ bytes v over. rw c.in-Err-Refused.field-0-is at (c.in-Err-Refused.ensures.fault bytes v (dump_of s.session) (over_copy v s over))) refl,
+    ))
+    c.refuse.ensures.ok
+
+pub returns-in-Err-Types-clause-replies : goal.returns-in-Err-Types-clause-replies
+returns-in-Err-Types-clause-replies c =
+    let s = c.args.self.now in
+    on_ok c.write_refusal.result
+    (λ added. (
+      _,
+      added,
+      refused_line s c.args.command.now _ types_refusal
+          (λ bytes v over. rw c.in-Err-Types.field-0-is at (c.in-Err-Types.ensures.fault bytes v (dump_of s.session) (over_copy v s over))) refl,
+    ))
+    c.write_refusal.ensures.ok

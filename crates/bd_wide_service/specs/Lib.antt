@@ -1,0 +1,5 @@
+pub mod Call
+pub mod Reply
+pub mod Serve
+pub mod ServiceView
+pub mod inside

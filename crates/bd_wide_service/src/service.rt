@@ -1,0 +1,132 @@
+//! A session over a dump of all types, which replies to each line that it receives.
+
+ghost use Rattle.std.specs.Prelude.{length};
+ghost use Rattle.bd_bson_dump.specs.Collection.{documents};
+ghost use Rattle.bd_cursor.specs.SessionView.{dump_of};
+ghost use Rattle.bd_wide_copy.specs.Dump.{IsCount, bytes_of};
+
+use crate::call::{WideCallFault, call_in};
+use bd_cli_service::{Call, LineRefusal, Reply, perform, write_batch, write_refusal, write_reply};
+use bd_cursor::Session;
+use bd_io_lines::Replier;
+use bd_value::NoMemory;
+use bd_wide_copy::WideDump;
+use bd_wide_find::{WidePrinter, coded_copy, table_of};
+use bd_wide_rank::Table;
+use std::alloc::{AllocError, Global};
+
+/// A session over a dump of all types. What is searched is a copy of the dump, with the codes of a table in place of its numbers.
+#[derive(Drop)]
+pub(crate) struct WideService {
+    alloc: Global,
+    dump: WideDump,
+    table: Table,
+    session: Session,
+    ghost counted: { IsCount (bytes_of dump) (length (documents (dump_of session))) },
+}
+
+impl WideService {
+    ghost use Rattle.std.specs.Prelude.{◌≡◌, ◌++◌, IfOk, List, Ok, OnErr, OnOk, ℕ};
+    ghost use Rattle.bd_cursor_model.specs.Laws.{new_state};
+    ghost use Rattle.bd_cli_service.specs.Reply.{refuses, reply_text, reported_refusal};
+    ghost use Rattle.bd_cli_service.specs.ServiceView.{session_call};
+    ghost use Rattle.bd_wide_copy.specs.Dump.{AreDocuments};
+    ghost use Rattle.bd_wide_service.specs.{Call.ByValue, Call.IsCallIn};
+    ghost use Rattle.bd_wide_service.specs.ServiceView.{IsServiceOver, LacksReplyTo, RepliesTo, service_state};
+    ghost use Rattle.bd_wide_service.specs.inside.ServiceView.{IsWritten};
+
+    /// A session with no index and no cursor. It fails only if memory runs out: a dump has fewer numbers than a table has codes for,
+    /// by `WideDump::has_few_numbers`.
+    pub(crate) fn new(alloc: Global, dump: WideDump) -> Result<WideService, NoMemory>
+        requires documents { AreDocuments (bytes_of dump) }
+        ensures over { IfOk result (λ s. (v : ByValue (bytes_of dump)) × IsServiceOver v s) }
+        ensures state { IfOk result (λ s. service_state s ≡ new_state) }
+    {
+        let Ok(table) = table_of(alloc, &dump) else {
+            return Err(AllocError);
+        };
+        let copy = coded_copy(alloc, &dump, &table)?;
+        Ok(WideService {
+            alloc,
+            dump,
+            table,
+            session: Session::new(alloc, copy),
+        })
+    }
+
+    /// Makes a call that is in the line, and appends the reply to it.
+    fn answer(&mut self, line: &[u8], call: Call, text: &mut Vec<u8>) -> Result<(), NoMemory>
+        requires call { (bytes : List ℕ) (v : ByValue bytes) → IsServiceOver v self.old →
+            IsCallIn v line.now (Ok (session_call (dump_of self.old.session) call)) }
+        ensures replies { OnOk result ((reply : List ℕ) × (text.new.items ≡ text.old.items ++ reply)
+            × RepliesTo self.old line.now reply self.new) }
+        ensures err { OnErr result ((text.new.items ≡ text.old.items)
+            × LacksReplyTo self.old line.now self.new) }
+    {
+        let reply = perform(&mut self.session, call)?;
+        self.write(&reply, text)
+    }
+
+    /// Appends the text of a reply.
+    fn write(&self, reply: &Reply, text: &mut Vec<u8>) -> Result<(), NoMemory>
+        ensures ok { OnOk result ((written : List ℕ) × (text.new.items ≡ text.old.items ++ written)
+            × IsWritten self.now reply.now written) }
+        ensures err { OnErr result (text.new.items ≡ text.old.items) }
+    {
+        match reply {
+            Reply::Gave(batch) => write_batch(
+                self.alloc,
+                &WidePrinter { dump: &self.dump },
+                self.session.dump(),
+                batch,
+                text,
+            ),
+            reply => write_reply(self.alloc, self.session.dump(), reply, text),
+        }
+    }
+
+    /// Appends the reply to a line that is refused.
+    fn refuse(&self, refusal: LineRefusal, text: &mut Vec<u8>) -> Result<(), NoMemory>
+        ensures ok { OnOk result (text.new.items
+            ≡ text.old.items ++ reply_text (refuses (reported_refusal refusal))) }
+        ensures err { OnErr result (text.new.items ≡ text.old.items) }
+    {
+        write_reply(
+            self.alloc,
+            self.session.dump(),
+            &Reply::Refused(refusal),
+            text,
+        )
+    }
+}
+
+impl Replier for WideService {
+    ghost use Rattle.std.specs.Prelude.{◌≡◌, ◌++◌, List, OnErr, OnOk, ℕ};
+    ghost use Rattle.bd_io_lines.specs.Serving.{RunsOutAt};
+    ghost use Rattle.bd_wide_service.specs.ServiceView.{LacksReplyTo, LacksSomeReply, RepliesTo};
+
+    ghost replies = { RepliesTo };
+
+    ghost stays = { LacksSomeReply };
+
+    /// Appends the reply to a line. The session is then in the state after the call in the line.
+    fn reply(&mut self, command: &[u8], text: &mut Vec<u8>) -> Result<(), AllocError>
+        ensures replies { OnOk result ((reply : List ℕ) × (text.new.items ≡ text.old.items ++ reply)
+            × RepliesTo self.old command.now reply self.new) }
+        ensures err { OnErr result (text.new.items ≡ text.old.items) }
+        ensures out_of_memory { OnErr result
+            (RunsOutAt LacksSomeReply RepliesTo self.old command.now self.new) }
+        // If memory runs out, the session is unchanged, or is in the state after the call whose reply could not be made.
+        ensures lacks { OnErr result (LacksReplyTo self.old command.now self.new) }
+    {
+        match call_in(self.alloc, command, &self.table) {
+            Ok(call) => self.answer(command, call, text),
+            Err(WideCallFault::NoMemory) => Err(AllocError),
+            Err(WideCallFault::Refused(refusal)) => self.refuse(refusal, text),
+            Err(WideCallFault::Types) => write_refusal("numbers", 1, TYPES, text),
+        }
+    }
+}
+
+/// Why a search for some of the types of numbers is refused.
+const TYPES: &str = "the types of numbers are not told apart here";

@@ -1,0 +1,5 @@
+//! Sessions over dumps of all types. The expected texts are worked by hand.
+#![tactic(auto)]
+
+#[cfg(test)]
+mod examples;
