@@ -17,7 +17,7 @@ use Rattle.bd_wide_rank.specs.{Rank.code, Worth.worth}
 use Rattle.bd_wide_copy.specs.{Copy.int32_of, Dump.AreJoinedBy, Dump.IsCount, Dump.coded_documents}
 use Rattle.bd_wide_copy.proofs.StartsLemmas.{starts_count}
 use Rattle.bd_wide_order.specs.{Query.renumber_request, Ranks.table_codes}
-use Rattle.bd_wide_find.specs.{Find.IsAccepted, Find.IsRequestOver, Find.IsRefusedOver, Find.request_by_value, Find.wide_find_run, Printer.IsWideText}
+use Rattle.bd_wide_find.specs.{Find.IsAccepted, Find.IsRequestOver, Find.IsRefusedOver, Find.HasValues, Find.request_by_value, Find.wide_find_run, Printer.IsWideText}
 use Rattle.bd_wide_find.specs.Find as cases
 use Rattle.bd_wide_find.specs.declared.{coded.Coded.Coded, question.Question.Question}
 use Rattle.bd_wide_find.specs.Coded.{CopiesDump}
@@ -69,24 +69,24 @@ module _ (options : FindOptions) (q : Question) (requests : ReadsOptions options
     unfolding accepted
     plain_run ds none dump prints = of_case options file (cases.plain accepted bytes ds read none dump) prints
 
-    pub refused_run : (out err_old err_new : Writer) (status : Status) (fault : SearchFault)
+    pub refused_run : HasValues q.query.numbers.items bytes → (out err_old err_new : Writer) (status : Status) (fault : SearchFault)
         → ReportsAs (IsRefusedOver options q.query.numbers.items (pairs q.query.wholes) (pairs q.query.texts) bytes) fault
         → IsReported program (between err_old err_new) status fault
         → Prints program (wide_find_run options file) (between out out) (between err_old err_new) status
     unfolding accepted
-    refused_run out err_old err_new status fault is reported =
+    refused_run values out err_old err_new status fault is reported =
         reports_fault options file out err_old err_new status (IsRefusedOver options q.query.numbers.items (pairs q.query.wholes) (pairs q.query.texts) bytes)
-        (λ message of. cases.refused_over accepted bytes message read of) (λ message of. refl) (inr (bytes, read)) fault is reported
+        (λ message of. cases.refused_over accepted bytes message read values of) (λ message of. refl) (inr (bytes, read)) fault is reported
 
     module _ (c : Coded) (s : SearchesCopy options q.query.numbers.items (pairs q.query.wholes) (pairs q.query.texts) bytes c) where
       requested : IsRequestOver options q.query.numbers.items (pairs q.query.wholes) (pairs q.query.texts) bytes
       requested = record { ds = s.ds; table = s.table; has = s.has; requests = s.searches.0; copy = bytes_of_dump c.copy; copied = s.copies.copied }
 
-      pub by_value_run : {out err : Over Writer} {status : Status} (taken : Option ℕ) → taken ≡ options.batch
+      pub by_value_run : HasValues q.query.numbers.items bytes → {out err : Over Writer} {status : Status} (taken : Option ℕ) → taken ≡ options.batch
           → Prints program (found_run (IsWideText bytes) taken (request_view c.search.request, c.search.token) (bytes_of_dump c.copy) (documents c.copy)) out err status
           → Prints program (wide_find_run options file) out err status
       unfolding accepted requested
-      by_value_run {out} {err} {status} taken size prints =
+      by_value_run values {out} {err} {status} taken size prints =
           let request = s.searches.0 in
           let r = request_by_value s.table request.request request.coded in
           let coded = renumber_request (table_codes s.table) request.coded.text r in
@@ -95,7 +95,7 @@ module _ (options : FindOptions) (q : Question) (requests : ReadsOptions options
           let resumed = subst (λ (x : Option Token). Prints program (found_run (IsWideText bytes) options.batch (coded, x) (bytes_of_dump c.copy) (documents c.copy)) out err status) s.searches.1 viewed in
           let copied = subst (λ (x : List Doc). Prints program (found_run (IsWideText bytes) options.batch (coded, request.token) (bytes_of_dump c.copy) x) out err status)
           (s.copies.documents_are s.ds s.has.are) resumed in
-          of_case options file (cases.by_value accepted bytes read requested)
+          of_case options file (cases.by_value accepted bytes read values requested)
           (subst (λ run. Prints program run out err status)
           (coded_runs s.table r (alike_kept s.table request.request.filter request.alike) s.ds (numbers_are_of s.table s.ds s.has.same)
           (bytes_of_dump c.copy) request.coded.text (IsWideText bytes) options.batch request.token) copied)

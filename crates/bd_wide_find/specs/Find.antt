@@ -103,6 +103,10 @@ IsRefusedOver options numbers wholes texts bytes message = (ds : List Doc) × (t
 
 -- ---- a run
 
+-- The query or the dump has a double or a decimal128.
+abbrev pub HasValues : List Number → List ℕ → Type 0
+HasValues numbers bytes = numbers ≡ [] → (ds : List Doc) → IsDump ds bytes → ⊥
+
 -- what a run of `find` comes to, by its options and its file
 pub data FindCase (options : FindOptions) (file : Over Reader) : Type 0 where
   -- the options are refused, and the file is not read
@@ -115,11 +119,11 @@ pub data FindCase (options : FindOptions) (file : Over Reader) : Type 0 where
   -- neither the query nor the dump has a double or a decimal128
   plain : (a : IsAccepted options) (bytes : List ℕ) (ds : List Doc) → ReadsInput file (Ok bytes) → a.numbers ≡ [] → IsDump ds bytes
       → FindCase options file
-  -- the dump is searched by value
-  by_value : (a : IsAccepted options) (bytes : List ℕ) → ReadsInput file (Ok bytes)
+  -- the query or the dump has one, and the dump is searched by value
+  by_value : (a : IsAccepted options) (bytes : List ℕ) → ReadsInput file (Ok bytes) → HasValues a.numbers bytes
       → IsRequestOver options a.numbers a.wholes a.texts bytes → FindCase options file
-  -- the options are refused over this dump
-  refused_over : (a : IsAccepted options) (bytes message : List ℕ) → ReadsInput file (Ok bytes)
+  -- the query or the dump has one, and the options are refused over this dump
+  refused_over : (a : IsAccepted options) (bytes message : List ℕ) → ReadsInput file (Ok bytes) → HasValues a.numbers bytes
       → IsRefusedOver options a.numbers a.wholes a.texts bytes message → FindCase options file
 
 -- the run of a case: its message alone, or the first batch of the documents that are found, as they are in the dump
@@ -128,10 +132,10 @@ case_run (refused message _ _) = partial_run (refusal_output message)
 case_run (unread fault _ _) = partial_run (refusal_output (read_words fault))
 case_run (faulty bytes fault _ _ _) = partial_run (refusal_output (fault_text fault.document (fault_view fault)))
 case_run {options} (plain a bytes ds _ _ _) = found_run (IsNamedText ds) options.batch (a.request, a.token) bytes ds
-case_run {options} (by_value a bytes _ over) =
+case_run {options} (by_value a bytes _ _ over) =
     found_run (IsWideText bytes) options.batch (request_by_value over.table over.requests.request over.requests.coded, over.requests.token)
     over.copy over.ds
-case_run (refused_over a bytes message _ _) = partial_run (refusal_output message)
+case_run (refused_over a bytes message _ _ _) = partial_run (refusal_output message)
 
 -- A run of `find` is that of its case; or memory ran out before anything was printed, and the file was read to its end or not at all.
 abbrev pub wide_find_run : FindOptions → Over Reader → Run
