@@ -1,4 +1,4 @@
-"""Prints what parts of DUMP answer, or lists all parts. usage: python3 part.py ['OFFSET LENGTH FIRST'..]"""
+"""Prints what parts of DUMP answer, as a dump if FORM is bson, or lists all parts. usage: python3 part.py ['OFFSET LENGTH FIRST'..]"""
 import json
 import os
 import sys
@@ -9,8 +9,9 @@ parts = [Part(dump, *map(int, it.split())) for it in sys.argv[1:] if it]
 try:
     most, query = (json.loads(os.environ[name]) for name in ("BYTES", "QUERY"))
     request = {name.lower(): json.loads(os.environ[name]) for name in ("SORT", "SKIP", "LIMIT")}
-    found = find_parts(parts, query, **request, decode="bytes")
+    form = os.environ.get("FORM", "bytes")
+    found = find_parts(parts, query, **request, decode=form)
     listed = [f"{it.offset} {it.length} {it.first}".encode() for it in ([] if parts else plan(dump, most))]
 except (BsonfindError, ValueError) as error:
     sys.exit(f"part.py: {error}")
-sys.stdout.buffer.writelines(line + b"\n" for line in found + listed)
+sys.stdout.buffer.write(b"".join(found) if form == "bson" and parts else b"".join(it + b"\n" for it in found + listed))
