@@ -1,5 +1,5 @@
 -- Tables, requests with codes, and copies.
-use Rattle.std.proofs.Common.{◌≡◌, ◌≤◌, ◌^◌, ℕ, List, length, Ok, Err, Result, refl, sym, ap, subst, inl, inr, ◌⊎◌, ◌∙◌, ◌++◌, [], codes, None, string_bytes}
+use Rattle.std.proofs.Common.{◌≡◌, ◌≤◌, ◌<◌, ◌^◌, arith, ℕ, List, length, Ok, Err, Result, refl, sym, ap, subst, inl, inr, ◌⊎◌, ◌∙◌, ◌++◌, [], codes, None, string_bytes}
 use Rattle.std.specs.Prelude.{ℤ, Option, true, false}
 use Rattle.bd_value.specs.Tree.{Doc, fields_of}
 use Rattle.bd_bson_check.specs.Dump.{IsDump}
@@ -15,13 +15,13 @@ use Rattle.bd_cli_find.specs.declared.options.SearchFault.{SearchFault}
 use Rattle.bd_cli_find.specs.declared.options.SearchFault.TheVariants as faults
 use Rattle.bd_wide_number.specs.declared.number.Number.{Number}
 use Rattle.bd_wide_rank.specs.{Rank.AreDistinct, Rank.HaveSame, Rank.code, Worth.worth}
-use Rattle.bd_wide_copy.specs.{Copy.int32_of, Dump.AreDocuments, Dump.AreJoinedBy, Dump.AreNumbersOfAll, Dump.IsCopyOfDump, Dump.coded_documents}
+use Rattle.bd_wide_copy.specs.{Copy.int32_of, Dump.AreDocuments, Dump.AreJoinedBy, Dump.AreNumbersOfAll, Dump.IsCopyOfDump, Dump.coded_documents, Numbers.document_numbers}
 use Rattle.bd_wide_order.specs.{Query.renumber_request, Ranks.TypesAlike, Ranks.table_codes}
 use Rattle.bd_wide_query.specs.Coded.{coded_query, valued_query}
 use Rattle.bd_wide_find.specs.Types.{fields_are_alike}
 use Rattle.bd_wide_find.specs.Find.{IsNoRequest, IsRequest, request_by_value, types_message}
-use Rattle.bd_wide_find.specs.Coded.{CopiesDump, IsCrowded}
-use Rattle.bd_wide_find.specs.Fault.{ReportsAs}
+use Rattle.bd_wide_find.specs.Coded.{CopiesDump}
+use Rattle.bd_wide_find.specs.inside.Fault.{ReportsAs}
 use Rattle.bd_wide_query.specs.Nan.{beside_nan}
 use Rattle.bd_wide_query.proofs.AlikeLemmas.{alike_back, alike_kept}
 use Rattle.bd_wide_find.proofs.TypesLemmas.{alike_renumbered}
@@ -29,12 +29,14 @@ use Rattle.bd_wide_find.proofs.AnswerLemmas.{refusals_stay, requests_are_read}
 
 -- ---- tables
 
-pub crowded : (bytes message : List ℕ) (numbers : List ℤ) → AreDocuments bytes → AreNumbersOfAll bytes numbers
-    → (all : List ℤ) × AreDistinct all × HaveSame all numbers × (2 ^ 30 ≤ length all) → message ≡ codes "too many numbers" → IsCrowded bytes message
-crowded bytes message numbers documents are (all, distinct, same, many) is =
-    let ds = (documents worth).0 in
-    let joined = (documents worth).1 in
-    (ds, all, record { are = joined; distinct = distinct; same = λ w. same w ∙ are ds joined w }, many, is)
+-- a dump never has too many numbers for a table
+pub never_crowded : (bytes : List ℕ) (numbers : List ℤ) → AreDocuments bytes → AreNumbersOfAll bytes numbers
+    → ((ds : List Doc) (table : List ℤ) → AreJoinedBy (valued worth) ds bytes → AreDistinct table → HaveSame table (document_numbers ds) → length table < 2 ^ 30)
+    → (all : List ℤ) × AreDistinct all × HaveSame all numbers × (2 ^ 30 ≤ length all) → ⊥
+never_crowded bytes numbers documents are few (all, distinct, same, many) =
+    let (ds, joined) = documents worth in
+    let less = few ds all joined distinct (λ w. same w ∙ are ds joined w) in
+    omega (arith, less, many)
 
 -- ---- copies
 

@@ -27,7 +27,7 @@ use Rattle.bd_wide_order.specs.{Query.renumber_request, Ranks.TypesAlike, Ranks.
 use Rattle.bd_wide_find.specs.Find.{FindCase, IsAccepted, case_run, wide_find_run}
 use Rattle.bd_wide_find.specs.Find as cases
 use Rattle.bd_wide_find.specs.Load.{FailsToLoadWide}
-use Rattle.bd_wide_find.specs.Fault.{IsReported, ReportsAs}
+use Rattle.bd_wide_find.specs.inside.Fault.{IsReported, ReportsAs}
 use Rattle.bd_wide_find.proofs.AnswerLemmas.{coded_answers}
 
 module _ {program : List ℕ} (options : FindOptions) (file : Over Reader) where

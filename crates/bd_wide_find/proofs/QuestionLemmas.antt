@@ -14,7 +14,7 @@ use Rattle.bd_wide_substitute.specs.Both.{IsRead}
 use Rattle.bd_wide_find.specs.Find.{IsNoRequest, IsRefused, IsRefusedOver, query_text}
 use Rattle.bd_wide_find.specs.declared.coded.Coded.{Coded}
 use Rattle.bd_wide_find.specs.Coded.{CopiesDump, IsTableOf}
-use Rattle.bd_wide_find.specs.Fault.{ReportsAs}
+use Rattle.bd_wide_find.specs.inside.Fault.{ReportsAs}
 use Rattle.bd_wide_find.specs.inside.Question.{SearchesBy, SearchesCopy}
 
 -- the parts of a document are its pairs
@@ -41,7 +41,7 @@ module _ (options : FindOptions) (numbers : List Number) (wholes texts : Doc) (b
       → ReportsAs (IsRefusedOver options numbers wholes texts bytes) fault
   refused_over table of fault =
       reports_more (IsNoRequest options numbers wholes texts table) (IsRefusedOver options numbers wholes texts bytes)
-      (λ message is. ((documents worth).0, table, of (documents worth).0 (documents worth).1, inr is)) fault
+      (λ message is. ((documents worth).0, table, of (documents worth).0 (documents worth).1, is)) fault
 
   -- a search with codes, and the copy
   pub searches_copy : (table : List ℤ) → IsTableOf bytes table → (c : Coded) → SearchesBy options numbers wholes texts table c.search

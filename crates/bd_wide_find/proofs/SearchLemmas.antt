@@ -21,7 +21,7 @@ use Rattle.bd_wide_find.specs.{Find.IsAccepted, Find.IsRequestOver, Find.IsRefus
 use Rattle.bd_wide_find.specs.Find as cases
 use Rattle.bd_wide_find.specs.declared.{coded.Coded.Coded, question.Question.Question}
 use Rattle.bd_wide_find.specs.Coded.{CopiesDump}
-use Rattle.bd_wide_find.specs.Fault.{IsReported, ReportsAs}
+use Rattle.bd_wide_find.specs.inside.Fault.{IsReported, ReportsAs}
 use Rattle.bd_wide_find.specs.inside.Question.{ReadsOptions, SearchesCopy}
 use Rattle.bd_wide_find.proofs.{FindLemmas.coded_runs, FindLemmas.few_documents, FindLemmas.of_case, FindLemmas.reports_fault}
 use Rattle.bd_wide_query.proofs.AlikeLemmas.{alike_kept}

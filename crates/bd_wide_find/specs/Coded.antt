@@ -1,5 +1,5 @@
 -- The table of the numbers of a dump, and the copy of the dump with codes: the rank of each number in the table.
-use Rattle.std.specs.Prelude.{◌≡◌, ◌≤◌, ◌^◌, ℕ, ℤ, List, length, codes}
+use Rattle.std.specs.Prelude.{◌≡◌, ℕ, ℤ, List}
 use Rattle.bd_value.specs.Tree.{Doc}
 use Rattle.bd_bson_view.specs.Spelling.{valued}
 use Rattle.bd_bson_dump.specs.Collection.{bytes_of as bytes_of_dump, documents}
@@ -11,11 +11,6 @@ use Rattle.bd_wide_find.specs.Find.{HasTable}
 -- The table has the numbers of the documents that the bytes are by value.
 abbrev pub IsTableOf : List ℕ → List ℤ → Type 0
 IsTableOf bytes table = (ds : List Doc) → AreJoinedBy (valued worth) ds bytes → HasTable bytes ds table
-
--- The documents have too many numbers for a table, which the message says.
-abbrev pub IsCrowded : List ℕ → List ℕ → Type 0
-IsCrowded bytes message = (ds : List Doc) × (table : List ℤ) × HasTable bytes ds table × (2 ^ 30 ≤ length table)
-    × (message ≡ codes "too many numbers")
 
 -- The dump is the copy of documents with codes.
 pub record CopiesDump (bytes : List ℕ) (table : List ℤ) (copy : Dump) : Type 0 where

@@ -1,5 +1,5 @@
 -- What `bsonwide find` prints for its options and an input: numbers of all types match, and are sorted, by their values.
-use Rattle.std.specs.Prelude.{◌≡◌, ◌⊎◌, ◌≤◌, ◌^◌, ℕ, ℤ, true, false, List, [], length, codes, Option, unwrap_or, Ok, Err}
+use Rattle.std.specs.Prelude.{◌≡◌, ◌⊎◌, ℕ, ℤ, true, false, List, [], codes, Option, unwrap_or, Ok, Err}
 use Rattle.bd_value.specs.{Tree.Doc, Tree.doc, Tree.fields_of, Fits.Fits}
 use Rattle.bd_io_device.specs.Devices.{Over, Reader, read_words}
 use Rattle.bd_io_device.specs.declared.reading.ReadFault.{ReadFault}
@@ -97,9 +97,8 @@ request_by_value table request coded = record request { filter = beside_nan tabl
 
 -- The options are refused with this message over a dump of all types.
 abbrev pub IsRefusedOver : FindOptions → List Number → Doc → Doc → List ℕ → List ℕ → Type 0
-IsRefusedOver options numbers wholes texts bytes message = (ds : List Doc) × (table : List ℤ) × HasTable bytes ds table
-    × (((2 ^ 30 ≤ length table) × (message ≡ codes "too many numbers"))
-    ⊎ IsNoRequest options numbers wholes texts table message)
+IsRefusedOver options numbers wholes texts bytes message =
+    (ds : List Doc) × (table : List ℤ) × HasTable bytes ds table × IsNoRequest options numbers wholes texts table message
 
 -- ---- a run
 

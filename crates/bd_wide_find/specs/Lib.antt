@@ -1,5 +1,4 @@
 pub mod Coded
-pub mod Fault
 pub mod Find
 pub mod Load
 pub mod Printer

@@ -9,8 +9,8 @@ ghost use Rattle.bd_wide_copy.specs.Dump.{AreDocuments, bytes_of};
 ghost use Rattle.bd_wide_order.specs.{Query.renumber_request, Ranks.table_codes};
 ghost use Rattle.bd_wide_query.specs.Nan.{beside_nan as beside_nan_of};
 ghost use Rattle.bd_wide_find.specs.Find.{IsNoRequest, IsRefusedOver};
-ghost use Rattle.bd_wide_find.specs.Coded.{CopiesDump, IsCrowded, IsTableOf};
-ghost use Rattle.bd_wide_find.specs.Fault.{ReportsAs};
+ghost use Rattle.bd_wide_find.specs.Coded.{CopiesDump, IsTableOf};
+ghost use Rattle.bd_wide_find.specs.inside.Fault.{ReportsAs};
 ghost use Rattle.bd_wide_find.specs.inside.Question.{SearchesBy, SearchesCopy};
 
 use crate::types::takes_types_alike;
@@ -51,23 +51,19 @@ pub(crate) fn code(
     Ok(Coded { search, copy })
 }
 
-/// The distinct numbers of a dump.
-///
-/// # Errors
-/// - `Message`: they are too many.
-/// - `NoMemory`: memory ran out.
-pub fn table_of(alloc: Global, dump: &WideDump) -> Result<Table, SearchFault>
+/// The distinct numbers of a dump. It fails only if memory runs out.
+pub fn table_of(alloc: Global, dump: &WideDump) -> Result<Table, NoMemory>
     requires { AreDocuments (bytes_of dump.now) }
-    ensures table { IfOk result (λ t. IsTableOf (bytes_of dump.now) (worths t)) }
-    ensures fault { IfErr result (ReportsAs (IsCrowded (bytes_of dump.now))) }
+    ensures { IfOk result (λ t. IsTableOf (bytes_of dump.now) (worths t)) }
 {
+    dump.has_few_numbers();
     let numbers = dump.numbers(alloc)?;
     match numbers.into_table() {
         Ok(table) => {
             table.codes_fit();
             Ok(table)
         }
-        Err(_) => Err(SearchFault::Message(String::from_str(alloc, "too many numbers")?)),
+        Err(_) => unreachable!(),
     }
 }
 

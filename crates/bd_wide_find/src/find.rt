@@ -10,7 +10,7 @@ ghost use Rattle.bd_cli_print.specs.Printer.{IsNamedText};
 ghost use Rattle.bd_cli_find.specs.{Find.found_run, Options.fits_batch};
 ghost use Rattle.bd_wide_copy.specs.Dump.{AreDocuments, bytes_of};
 ghost use Rattle.bd_wide_find.specs.Find.{wide_find_run};
-ghost use Rattle.bd_wide_find.specs.Fault.{IsReported};
+ghost use Rattle.bd_wide_find.specs.inside.Fault.{IsReported};
 ghost use Rattle.bd_wide_find.specs.inside.Question.{ReadsOptions};
 
 use crate::coded::{Coded, code};
@@ -121,12 +121,7 @@ fn answer_plain<O: Output, E: Output>(
 }
 
 /// Reports why there is no search.
-pub fn report_fault<E: Output>(
-    alloc: Global,
-    program: &str,
-    fault: &SearchFault,
-    err: &mut E,
-) -> Status
+fn report_fault<E: Output>(alloc: Global, program: &str, fault: &SearchFault, err: &mut E) -> Status
     ensures { IsReported program.now (over E.state err.old err.new) result fault.now }
 {
     match fault {

@@ -6,7 +6,7 @@ ghost use Rattle.bd_cursor_request.specs.Request.{request_view};
 ghost use Rattle.bd_cli_find.specs.Options.{fits_batch, requested_with};
 ghost use Rattle.bd_wide_substitute.specs.Both.{IsRead};
 ghost use Rattle.bd_wide_find.specs.Find.{IsRefused, IsRefusedText, query_text};
-ghost use Rattle.bd_wide_find.specs.Fault.{ReportsAs};
+ghost use Rattle.bd_wide_find.specs.inside.Fault.{ReportsAs};
 
 use bd_cli_args::FindOptions;
 use bd_cli_find::{Search, SearchFault, json_message, read_search_with};

@@ -35,16 +35,13 @@ impl WideService {
     ghost use Rattle.bd_wide_service.specs.ServiceView.{IsServiceOver, LacksReplyTo, RepliesTo, service_state};
     ghost use Rattle.bd_wide_service.specs.inside.ServiceView.{IsWritten};
 
-    /// A session with no index and no cursor. It fails only if memory runs out: a dump has fewer numbers than a table has codes for,
-    /// by `WideDump::has_few_numbers`.
+    /// A session with no index and no cursor. It fails only if memory runs out.
     pub(crate) fn new(alloc: Global, dump: WideDump) -> Result<WideService, NoMemory>
         requires documents { AreDocuments (bytes_of dump) }
         ensures over { IfOk result (λ s. (v : ByValue (bytes_of dump)) × IsServiceOver v s) }
         ensures state { IfOk result (λ s. service_state s ≡ new_state) }
     {
-        let Ok(table) = table_of(alloc, &dump) else {
-            return Err(AllocError);
-        };
+        let table = table_of(alloc, &dump)?;
         let copy = coded_copy(alloc, &dump, &table)?;
         Ok(WideService {
             alloc,

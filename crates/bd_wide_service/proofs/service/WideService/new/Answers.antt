@@ -11,10 +11,10 @@ pub invariant_of-result : goal.invariant_of-result
 invariant_of-result c = record {
   counted =
       subst (λ (d : Dump). IsCount (bytes_of c.args.dump) (length (documents d))) (sym c.new.ensures.dump)
-      (counted (bytes_of c.args.dump) (worths c.in-Ok.table) c.in_ok-copy.copy c.requires.documents c.in_ok-copy.ensures);
+      (counted (bytes_of c.args.dump) (worths c.in_ok-table.table) c.in_ok-copy.copy c.requires.documents c.in_ok-copy.ensures);
 }
 
 pub returns-clause-over : goal.returns-clause-over
 returns-clause-over c =
-    let (v, over) = by_value (bytes_of c.args.dump) (worths c.in-Ok.table) c.in_ok-copy.copy c.requires.documents c.in_ok-copy.ensures c.in-Ok.ensures.table in
-    (v, service_over v _ refl (subst (λ (d : Dump). IsOver v (worths c.in-Ok.table) d) (sym c.new.ensures.dump) over))
+    let (v, over) = by_value (bytes_of c.args.dump) (worths c.in_ok-table.table) c.in_ok-copy.copy c.requires.documents c.in_ok-copy.ensures c.in_ok-table.ensures in
+    (v, service_over v _ refl (subst (λ (d : Dump). IsOver v (worths c.in_ok-table.table) d) (sym c.new.ensures.dump) over))
