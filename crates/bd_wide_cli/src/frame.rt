@@ -1,10 +1,11 @@
 //! The next document of a device, by its length.
 
-ghost use Rattle.std.specs.Prelude.{◌≡◌, ◌≤◌, ◌+◌, ◌++◌, IfOk, OnErr, OnOk, List, ℕ, length};
+ghost use Rattle.std.specs.Prelude.{◌≡◌, ◌≢◌, ◌≤◌, ◌<◌, ◌+◌, ◌++◌, IfErr, IfOk, OnOk, List, ℕ, length};
 ghost use Rattle.std.specs.Io.KnownBytes.{Consumes};
 ghost use Rattle.std.specs.Int.{w32, from_le_bytes};
 ghost use Rattle.bd_value.specs.Limits.{longest_document};
-ghost use Rattle.bd_wide_cli.specs.inside.Filtered.{IsNext};
+ghost use Rattle.bd_io_device.specs.Devices.{over};
+ghost use Rattle.bd_wide_cli.specs.inside.Filtered.{FailsToRead, IsNext};
 
 use bd_io_device::{Input, Limits, ReadFault, fill, fill_after};
 use bd_value::LONGEST_DOCUMENT;
@@ -31,8 +32,13 @@ pub(crate) fn next_frame<R: Input>(
     ensures next { IfOk result (λ n. IsNext n buffer.new.items (R.state input.new).remaining) }
     ensures counted { OnOk result (remaining.new.bytes + length buffer.new.items
         ≡ remaining.old.bytes) }
-    ensures fault { OnErr result ((given : List ℕ)
-        × Consumes (R.state input.old).remaining (R.state input.new).remaining given) }
+    ensures turned { IfOk result (λ n. n ≢ Next.Last → remaining.old.bytes < remaining.old.turns →
+        remaining.new.bytes < remaining.new.turns) }
+    ensures no_failure { OnOk result ((R.state input.new).failures ≡ (R.state input.old).failures) }
+    ensures fault { IfErr result (λ f. (given : List ℕ)
+        × Consumes (R.state input.old).remaining (R.state input.new).remaining given
+        × FailsToRead f remaining.old.bytes remaining.old.turns
+        (over R.state input.old input.new) given) }
 {
     let mut head = [0; 4];
     let filled = fill(input, &mut head, *remaining)?;
@@ -64,8 +70,13 @@ fn read_rest<R: Input>(
     ensures next { IfOk result (λ n. IsNext n buffer.new.items (R.state input.new).remaining) }
     ensures counted { OnOk result (remaining.new.bytes + length buffer.new.items
         ≡ remaining.old.bytes + 4) }
-    ensures fault { OnErr result ((given : List ℕ)
-        × Consumes (R.state input.old).remaining (R.state input.new).remaining given) }
+    ensures turned { IfOk result (λ n. n ≢ Next.Last → remaining.old.bytes < remaining.old.turns →
+        remaining.new.bytes < remaining.new.turns) }
+    ensures no_failure { OnOk result ((R.state input.new).failures ≡ (R.state input.old).failures) }
+    ensures fault { IfErr result (λ f. (given : List ℕ)
+        × Consumes (R.state input.old).remaining (R.state input.new).remaining given
+        × FailsToRead f (remaining.old.bytes + 4) (remaining.old.turns + 4)
+        (over R.state input.old input.new) (head ++ given)) }
 {
     if buffer.resize(size, 0).is_err() {
         return Err(ReadFault::NoMemory);
@@ -82,7 +93,8 @@ fn read_rest<R: Input>(
 
 /// Makes these bytes the content of the buffer.
 fn store(bytes: &[u8], buffer: &mut Vec<u8>) -> Result<(), ReadFault>
-    ensures { OnOk result (buffer.new.items ≡ bytes.now) }
+    ensures stored { OnOk result (buffer.new.items ≡ bytes.now) }
+    ensures memory { IfErr result (λ f. f ≡ ReadFault.NoMemory) }
 {
     buffer.clear();
     if buffer.extend_from_slice(bytes).is_err() {

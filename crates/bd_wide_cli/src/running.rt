@@ -143,7 +143,8 @@ fn pass_on<R: Input, O: Output>(
     ensures ok { OnOk result
         (PassesOn bytes.now (over R.state input.old input.new) (over O.state out.old out.new)) }
     ensures err { IfErr result
-        (StopsPassing bytes.now (over R.state input.old input.new) (over O.state out.old out.new)) }
+        (StopsPassing next bytes.now remaining (over R.state input.old input.new)
+        (over O.state out.old out.new)) }
 {
     if write_all(out, bytes).is_err() {
         return Err(Stop::Unwritten);
@@ -159,7 +160,8 @@ fn copy_rest<R: Input, O: Output>(input: &mut R, remaining: Limits, out: &mut O)
     ensures ok { OnOk result
         (CopiesRest (over R.state input.old input.new) (over O.state out.old out.new)) }
     ensures err { IfErr result
-        (StopsCopying (over R.state input.old input.new) (over O.state out.old out.new)) }
+        (StopsCopying remaining (over R.state input.old input.new)
+        (over O.state out.old out.new)) }
 {
     let mut block = [0u8; BLOCK];
     let mut bytes = remaining.bytes;

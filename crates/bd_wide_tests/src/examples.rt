@@ -102,6 +102,29 @@ fn ordered_dump(rt: HostRuntime) -> Result<(), Fail> {
     Ok(())
 }
 
+/// Of {"d":1.5} and {"e":2.5} the first double has a code at the first path, and the other none at the second one.
+#[test]
+fn refused_number(rt: HostRuntime) -> Result<(), Fail> {
+    let alloc = rt.alloc();
+    let bytes = b"\x10\0\0\0\x01d\0\0\0\0\0\0\0\xf8\x3f\0\x10\0\0\0\x01e\0\0\0\0\0\0\0\x04\x40\0";
+    let words = [
+        String::from_str(alloc, "d")?,
+        String::from_str(alloc, "e*1")?,
+    ];
+    let command = Command::Order(read_order(alloc, &words)?);
+    let mut input = MemoryInput::new(bytes, 100, None);
+    let mut buffer = [0; 100];
+    let mut out = MemoryOutput::new(&mut buffer, 100, None);
+    let mut reported = [0; 100];
+    let mut err = MemoryOutput::new(&mut reported, 100, None);
+    assert!(rt; run(alloc, &command, &mut input, &mut out, &mut err) == Status::Failed);
+    let coded = b"\x1c\0\0\0\x12~n\0\0\0\0\0\0\0\0\0\x12d\0\0\0\0\0\0\0\xf8\x3f\0";
+    assert!(rt; out.bytes() == coded.as_slice());
+    let message = "bsonwide: document 1, byte 20, path \"e\": not a whole number of 64 bits\n";
+    assert!(rt; err.bytes() == message.as_bytes());
+    Ok(())
+}
+
 /// The output for `--help` and for `--version`.
 #[test]
 fn reports(rt: HostRuntime) {
