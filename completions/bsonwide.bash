@@ -14,13 +14,14 @@ _bsonwide_inputs() {
 	fi
 }
 
-# The options of find that the line has not, and a file where it has none; no value of an option.
-_bsonwide_find() {
-	local word=$1 options=' --query --sort --skip --limit --batch --index --after ' option is_file_there='' at=2
+# Those of these options that the line has not, and a file where it has none; of the values of options only formats.
+_bsonwide_options() {
+	local word=$1 options=$2 option='' is_file_there='' at=2
 	while ((at < COMP_CWORD)); do
 		case ${COMP_WORDS[at]} in
-		--query | --sort | --skip | --limit | --batch | --index | --after)
-			options=${options/ ${COMP_WORDS[at]} / }
+		--query | --sort | --skip | --limit | --batch | --index | --after | --jsonFormat)
+			option=${COMP_WORDS[at]}
+			options=${options/ $option / }
 			((at += 1))
 			if [[ ${COMP_WORDS[at]} == = ]]; then
 				((at += 1))
@@ -32,6 +33,9 @@ _bsonwide_find() {
 		((at += 1))
 	done
 	if ((at > COMP_CWORD)); then
+		if [[ $option == --jsonFormat ]]; then
+			mapfile -t COMPREPLY < <(compgen -W "canonical relaxed" -- "${word#=}")
+		fi
 		return
 	fi
 	if [[ -z $is_file_there ]]; then
@@ -45,18 +49,25 @@ _bsonwide_find() {
 }
 
 _bsonwide() {
-	local word=${COMP_WORDS[COMP_CWORD]} command=${COMP_WORDS[1]} before=${COMP_WORDS[COMP_CWORD - 1]}
+	local word=${COMP_WORDS[COMP_CWORD]} command=${COMP_WORDS[1]} before=${COMP_WORDS[COMP_CWORD - 1]} options
 	COMPREPLY=()
 	if ((COMP_CWORD == 1)); then
 		mapfile -t COMPREPLY < <(compgen -W 'dump check pack find order --help' -- "$word")
 		return
 	fi
-	# One file, maybe after two hyphens; find alone has more words.
-	[[ $command == find || $COMP_CWORD == 2 || "$COMP_CWORD $before" == '3 --' ]] || return
 	case $command in
-	dump | check | order) _bsonwide_inputs .bson "$word" ;;
+	dump) options=' --jsonFormat ' ;;
+	find) options=' --query --sort --skip --limit --batch --index --after ' ;;
+	esac
+	if [[ -n $options ]]; then
+		_bsonwide_options "$word" "$options"
+		return
+	fi
+	# One file, maybe after two hyphens; only commands with options have more words.
+	[[ $COMP_CWORD == 2 || "$COMP_CWORD $before" == '3 --' ]] || return
+	case $command in
+	check | order) _bsonwide_inputs .bson "$word" ;;
 	pack) _bsonwide_inputs '' "$word" ;;
-	find) _bsonwide_find "$word" ;;
 	esac
 }
 

@@ -14,7 +14,7 @@ function __bsonwide_needs_file
     for word in $words[3..]
         if test $is_value = 1
             set is_value 0
-        else if contains -- $word --query --sort --skip --limit --batch --index --after
+        else if contains -- $word --query --sort --skip --limit --batch --index --after --jsonFormat
             set is_value 1
         else if not string match -q -- '--*' $word
             return 1
@@ -23,9 +23,9 @@ function __bsonwide_needs_file
     test $is_value = 0
 end
 
-# Whether it is find, without this option.
+# Whether it is the first of these, a command, without the second, an option.
 function __bsonwide_needs
-    __bsonwide_command find; and not string match -q -r -- "^--$argv(=|\$)" (commandline -opc)
+    __bsonwide_command $argv[1]; and not string match -q -r -- "^--$argv[2](=|\$)" (commandline -opc)
 end
 
 complete -c bsonwide -f
@@ -38,10 +38,12 @@ complete -c bsonwide -n 'not __bsonwide_command dump check pack find order' -s h
 complete -c bsonwide -n '__bsonwide_needs_file dump check pack find order' -a - -d 'standard input'
 complete -c bsonwide -n '__bsonwide_needs_file dump check find order' -k -a '(__fish_complete_suffix .bson)'
 complete -c bsonwide -n '__bsonwide_needs_file pack' -F
-complete -c bsonwide -n '__bsonwide_needs query' -l query -x -d 'the query, as {"age":{"$gte":18}}'
-complete -c bsonwide -n '__bsonwide_needs sort' -l sort -x -d 'the sort, as {"age":-1}'
-complete -c bsonwide -n '__bsonwide_needs skip' -l skip -x -d 'pass over N documents'
-complete -c bsonwide -n '__bsonwide_needs limit' -l limit -x -d 'at most N documents'
-complete -c bsonwide -n '__bsonwide_needs batch' -l batch -x -d 'the next N documents'
-complete -c bsonwide -n '__bsonwide_needs index' -l index -x -d 'find by an index on the path, as address.city'
-complete -c bsonwide -n '__bsonwide_needs after' -l after -x -d 'go on after a token'
+complete -c bsonwide -n '__bsonwide_needs dump jsonFormat' -l jsonFormat -x -a 'canonical relaxed' -d 'how numbers and dates are printed'
+complete -c bsonwide -n 'test (commandline -opc)[-1] = --jsonFormat' -a 'canonical relaxed'
+complete -c bsonwide -n '__bsonwide_needs find query' -l query -x -d 'the query, as {"age":{"$gte":18}}'
+complete -c bsonwide -n '__bsonwide_needs find sort' -l sort -x -d 'the sort, as {"age":-1}'
+complete -c bsonwide -n '__bsonwide_needs find skip' -l skip -x -d 'pass over N documents'
+complete -c bsonwide -n '__bsonwide_needs find limit' -l limit -x -d 'at most N documents'
+complete -c bsonwide -n '__bsonwide_needs find batch' -l batch -x -d 'the next N documents'
+complete -c bsonwide -n '__bsonwide_needs find index' -l index -x -d 'find by an index on the path, as address.city'
+complete -c bsonwide -n '__bsonwide_needs find after' -l after -x -d 'go on after a token'

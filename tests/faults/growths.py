@@ -192,6 +192,7 @@ def wide_runs() -> list[Run]:
     refused = 'document 1, byte 20, path "d": not a whole number of 64 bits'
     return [
         Run("dump of numbers", ["dump", "-"], b"".join(numbers), number_lines, "3 objects found\n"),
+        Run("dump of numbers, relaxed", ["dump", "-", "--jsonFormat", "relaxed"], b"".join(numbers), lines('{"d":1.0}\n' + DECIMAL_LINE + '{"a":1}\n'), "3 objects found\n"),
         Run("pack of numbers", ["pack", "-"], b"".join(number_lines), numbers, "3 objects packed\n"),
         Run("pack of a bare double", ["pack", "-"], b'{"d":1.0}\n{"d":1e999}', [DOUBLE], f"{NAME}: line 2, byte 5: number out of range\n1 objects packed\n", 1),
         # The numbers are 1 and 1.5, so their codes are 1 and 3, and that of 2 is 4.

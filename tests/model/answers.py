@@ -7,8 +7,10 @@ is of a kind, which has the name that $type gives it.
 import base64
 import hashlib
 import json
+import math
 import re
 import struct
+from datetime import datetime, timedelta
 from decimal import Decimal
 from fractions import Fraction
 from typing import Callable, Iterator, NamedTuple
@@ -152,18 +154,34 @@ def decimal_of(data: bytes) -> Decimal:
     return Decimal((sign, tuple(map(int, str(coefficient))), power - 6176))
 
 
-def written(value: Value) -> str:
-    """The canonical text of a value."""
+def relaxed(value: Value) -> str | None:
+    """The relaxed text of a number or a date, as Go's driver writes it; None where it is the canonical text."""
+    kind, of = value
+    if kind in ("int", "long"):
+        return str(of)
+    if kind == "double" and math.isfinite(struct.unpack("<d", of)[0]):
+        return double_text(of)
+    if kind == "date" and 0 <= of < 253_402_300_800_000:
+        day = datetime(1970, 1, 1) + timedelta(milliseconds=of)
+        fraction = f".{of % 1000:03}".rstrip("0").rstrip(".")
+        return f'{{"$date":"{day.strftime("%Y-%m-%dT%H:%M:%S")}{fraction}Z"}}'
+    return None
+
+
+def written(value: Value, is_relaxed: bool = False) -> str:
+    """The text of a value, canonical or relaxed."""
 
     def quoted(text: str) -> str:
         return json.dumps(text, ensure_ascii=False)
 
+    if is_relaxed and (text := relaxed(value)) is not None:
+        return text
     kind, of = value
     match kind:
         case "object":
-            return "{" + ",".join(f"{quoted(name)}:{written(it)}" for name, it in of) + "}"
+            return "{" + ",".join(f"{quoted(name)}:{written(it, is_relaxed)}" for name, it in of) + "}"
         case "array":
-            return "[" + ",".join(map(written, of)) + "]"
+            return "[" + ",".join(written(it, is_relaxed) for it in of) + "]"
         case "string":
             return quoted(of)
         case "bool" | "null":
@@ -180,7 +198,7 @@ def written(value: Value) -> str:
         case "javascript":
             return f'{{"$code":{quoted(of)}}}'
         case "javascriptWithScope":
-            return f'{{"$code":{quoted(of[0])},"$scope":{written(of[1])}}}'
+            return f'{{"$code":{quoted(of[0])},"$scope":{written(of[1], is_relaxed)}}}'
         case "objectId":
             return f'{{"$oid":"{of.hex()}"}}'
         case "date":

@@ -107,10 +107,10 @@ def check(data: bytes) -> tuple[bytes, bytes, int]:
     return "".join(faults).encode(), f"{len(read.documents)} documents, {len(faults)} faulty\n".encode(), int(faults != [])
 
 
-def dump(data: bytes) -> tuple[bytes, bytes, int]:
+def dump(data: bytes, is_relaxed: bool = False) -> tuple[bytes, bytes, int]:
     """The lines of the documents before the first fault, that fault and the line of counts, and the status."""
     read = read_dump(data, is_wide=True)
-    faults, lines = read.faults(), [f"{written(it)}\n" for it in read.front()]
+    faults, lines = read.faults(), [f"{written(it, is_relaxed)}\n" for it in read.front()]
     told = "".join([*(f"bsonwide: {it}" for it in faults[:1]), f"{len(lines)} objects found\n"])
     return "".join(lines).encode(), told.encode(), int(faults != [])
 

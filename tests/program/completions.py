@@ -21,8 +21,9 @@ from support import ROOT
 
 COMPLETIONS = ROOT / "completions"
 COMMANDS = {"dump", "check", "pack", "find", "serve"}
-OF_WIDE = {"dump", "check", "pack", "order"}
+OF_WIDE = {"dump", "check", "pack", "find", "order"}
 OPTIONS = {"--query", "--sort", "--skip", "--limit", "--batch", "--index", "--after"}
+FORMAT, FORMATS = {"--jsonFormat"}, {"canonical", "relaxed"}
 DUMPS = {"one.bson", "two.bson", "room/"}
 OTHERS = {"lines.jsonl"}
 HELP = {"-h", "--help"}
@@ -69,9 +70,18 @@ OF_BSONWIDE: list[Row] = [
     ("pack l", {"lines.jsonl"}, set()),
     ("pack -- ", DUMPS | OTHERS | {"-"}, set()),
     ("pack lines.jsonl ", set(), set()),
+    ("dump ", DUMPS | {"-"}, FORMAT | OTHERS),
+    ("dump o", {"one.bson"}, set()),
+    ("dump -- ", DUMPS | {"-"}, OTHERS),
+    ("dump one.bson ", set(), FORMAT),
+    ("dump --", FORMAT, set()),
+    ("dump one.bson --", FORMAT, set()),
+    ("dump one.bson --jsonFormat ", FORMATS, set()),
+    ("dump --jsonFormat r", {"relaxed"}, set()),
+    ("dump --jsonFormat relaxed ", DUMPS | {"-"}, OTHERS),
     *(
         row
-        for name in sorted(OF_WIDE - {"pack"})
+        for name in ("check", "order")
         for row in (
             (f"{name} ", DUMPS | {"-"}, OTHERS),
             (f"{name} o", {"one.bson"}, set()),
@@ -81,7 +91,7 @@ OF_BSONWIDE: list[Row] = [
     ),
 ]
 ROWS = {"bsonfind": OF_BSONFIND, "bsonwide": OF_BSONWIDE}
-KNOWN = COMMANDS | OF_WIDE | OPTIONS | DUMPS | OTHERS | HELP | {"-"}
+KNOWN = COMMANDS | OF_WIDE | OPTIONS | FORMAT | FORMATS | DUMPS | OTHERS | HELP | {"-"}
 PROMPT = "ready> "
 
 

@@ -3,7 +3,7 @@
 
 usage: tests/wide/others.py [--program PATH] [--count N] [--seed N]     The last line is 'N passed, M failed'.
 
-First the drivers' corpus (corpus.jsonl): its canonical texts, its other texts, and what it refuses. Then N random doubles and N random
+First the drivers' corpus (corpus.jsonl, relaxed.jsonl): its canonical and relaxed texts, its other texts, and what it refuses. Then N random doubles and N random
 decimal128, 20,000 without it, beside Python (`repr`, `float`, `decimal`) and, where Debian's golang-mongodb-mongo-driver-dev is installed,
 beside Go's driver: the lines of `dump`, and what `pack` makes of them. Half of them have random bits; the others are near the ends of what can
 be, and near each place where another form of text begins. Last `pack` reads as many other texts: of doubles those half way between two, or nearly.
@@ -31,14 +31,15 @@ from peers import go_driver
 from support import ROOT, Tests, commands_of
 
 CORPUS = Path(__file__).resolve().with_name("corpus.jsonl")
+RELAXED = CORPUS.with_name("relaxed.jsonl")
 # The types, and the names of their wrappers.
 DOUBLE, DECIMAL = (0x01, "$numberDouble"), (0x13, "$numberDecimal")
 # The digits of a number half way between two doubles, of which the least has the most.
 EXACT = Context(prec=1100)
 
 
-def run(program: str, command: str, data: bytes) -> subprocess.CompletedProcess:
-    return subprocess.run([program, command, "-"], input=data, capture_output=True, check=False)
+def run(program: str, command: str, data: bytes, *words: str) -> subprocess.CompletedProcess:
+    return subprocess.run([program, command, "-", *words], input=data, capture_output=True, check=False)
 
 
 def lines_of(program: str, data: bytes) -> list[bytes]:
@@ -70,6 +71,20 @@ def try_corpus(tests: Tests, program: str, packs: bool) -> None:
             made = run(program, "pack", case["refused"].encode())
             is_refused = made.returncode == 1 and made.stderr.startswith((b"bsonwide: line 1, byte 5: bad wrapper\n", b"bsonwide: line 1, byte 5: number out of range\n"))
             tests.want(f"corpus, pack, refused: {case['case']}", is_refused and not made.stdout, made)
+
+
+def try_relaxed(tests: Tests, program: str) -> None:
+    """The relaxed texts of the corpus; and a document whose canonical text has no wrapper of a number or a date has this text."""
+    _, *cases = map(json.loads, RELAXED.read_text(encoding="utf-8").splitlines())
+    for case in cases:
+        made = run(program, "dump", bytes.fromhex(case["bytes"]), "--jsonFormat", "relaxed")
+        tests.want(f"corpus, relaxed: {case['case']}", (made.returncode, made.stdout) == (0, f"{case['relaxed']}\n".encode()), made)
+    _, *cases = map(json.loads, CORPUS.read_text(encoding="utf-8").splitlines())
+    data = b"".join(bytes.fromhex(it["bytes"]) for it in cases if "text" in it)
+    relaxed = run(program, "dump", data, "--jsonFormat", "relaxed").stdout.split(b"\n")
+    for canonical, line in zip(lines_of(program, data), relaxed):
+        if not any(it in canonical for it in (b"$numberInt", b"$numberLong", b"$numberDouble", b"$date")):
+            tests.want(f"corpus, relaxed and canonical: {canonical!r}", line == canonical, line)
 
 
 def is_too_long(value: bytes) -> bool:
@@ -159,6 +174,7 @@ def main() -> int:
     tests, rng, program = Tests(), random.Random(words.seed), words.program
     packs = "pack" in commands_of(Path(program).name)
     try_corpus(tests, program, packs)
+    try_relaxed(tests, program)
     with tempfile.TemporaryDirectory() as room:
         go = go_driver(room)
         if not go:

@@ -9,6 +9,7 @@ import re
 import struct
 import subprocess
 import sys
+from datetime import datetime, timezone
 from pathlib import Path
 
 sys.path.insert(0, str(Path(__file__).resolve().parents[1]))
@@ -22,6 +23,7 @@ from support import ROOT, Tests, usage_of
 PROGRAM = Path(sys.argv[1]).resolve() if len(sys.argv) > 1 else ROOT / "bsonwide"
 DOCUMENTS = int(sys.argv[2]) if len(sys.argv) > 2 else 20_000
 USAGE = usage_of("bsonwide").encode()
+NONE = b"0 objects found\n"
 VERSION = b"bsonwide " + (ROOT / "VERSION").read_bytes()
 RNG = random.Random(57)
 # Texts that stand in the pages of Go's driver, of bsondump, of Extended JSON v2 and of the decimal128 specification.
@@ -83,6 +85,14 @@ WHOLES = {
 }  # fmt: skip
 
 
+def a_date() -> bytes:
+    """A date of any year, or one of the years 1970 to 9999, maybe of a whole second, or near the end of one of these years."""
+    years = 253_402_300_800_000
+    last = int(datetime(RNG.randrange(1970, 10_000), 12, 31, tzinfo=timezone.utc).timestamp()) * 1000 + 86_400_000
+    date = RNG.choice([RNG.randrange(1 << 64) - (1 << 63), RNG.randrange(years), RNG.randrange(years // 1000) * 1000, last + RNG.randrange(-11, 11)])
+    return date.to_bytes(8, "little", signed=True)
+
+
 def a_value(levels: int) -> tuple[int, bytes]:
     kind = RNG.choice([1, 1, 1, 2, 3, 3, 4, 5, 6, 7, 8, 9, 10, 11, 12, 13, 14, 15, 16, 17, 18, 19, 19, 127, 255])
     if levels <= 0 and kind in (3, 4, 15):
@@ -93,6 +103,8 @@ def a_value(levels: int) -> tuple[int, bytes]:
         return kind, a_double(RNG)
     if kind == 19:
         return kind, a_decimal(RNG)
+    if kind == 9:
+        return kind, a_date()
     if kind in (3, 4):
         return kind, a_document(levels - 1)
     if kind == 15:
@@ -102,7 +114,7 @@ def a_value(levels: int) -> tuple[int, bytes]:
         return kind, four(len(text)) + bytes([RNG.randrange(3)]) + bytes(text)
     if kind == 11:
         return kind, bytes(text) + b"\0" + bytes(text) + b"\0"
-    sizes = {7: 12, 8: 1, 9: 8, 16: 4, 17: 8, 18: 8}
+    sizes = {7: 12, 8: 1, 16: 4, 17: 8, 18: 8}
     if kind in sizes:
         return kind, RNG.randbytes(sizes[kind])
     return kind, {2: string, 12: string + RNG.randbytes(12), 13: string, 14: string}.get(kind, b"")
@@ -254,6 +266,8 @@ def main() -> int:
         tests.want(f"check, {name}", made == check(data), made[1:])
         made = ran("dump", data)
         tests.want(f"dump, {name}", made == dump(data), made[1:])
+        made = ran("dump", data, b"--jsonFormat", b"relaxed")
+        tests.want(f"dump, relaxed, {name}", made == dump(data, is_relaxed=True), made[1:])
         for paths in ([], PATHS):
             made = ran("order", data, *paths)
             tests.want(f"order, {name}, {len(paths)} paths", made == ordered(data, *paths), made[1:])
@@ -276,6 +290,10 @@ def main() -> int:
         (["order", "-", "--", "-a"], 0, b"", b""), (["order", "-", "-a"], 2, b"", USAGE), (["--help"], 0, USAGE, b""), (["dump", "-h"], 0, USAGE, b""),
         (["check", "absent"], 1, b"", b"bsonwide: cannot open absent\n"), (["check", "--", "-x"], 1, b"", b"bsonwide: cannot open -x\n"),
         (["order", "/"], 1, b"", b"bsonwide: cannot read\n"), (["check", "/"], 1, b"", b"bsonwide: cannot read\n0 documents, 0 faulty\n"),
+        (["dump", "-", "--jsonFormat", "canonical"], 0, b"", NONE), (["dump", "--jsonFormat=relaxed", "-"], 0, b"", NONE),
+        (["dump", "-", "--jsonFormat", "Relaxed"], 2, b"", USAGE), (["dump", "-", "--jsonFormat", ""], 2, b"", USAGE),
+        (["dump", "-", "--jsonFormat"], 2, b"", USAGE), (["check", "-", "--jsonFormat", "relaxed"], 2, b"", USAGE),
+        (["dump", "-", "--jsonFormat", "relaxed", "--jsonFormat", "relaxed"], 2, b"", USAGE),
         (["mask", "-"], 2, b"", USAGE), (["wrap", "-"], 2, b"", USAGE), (["--version"], 0, VERSION, b""), (["--version", "-"], 2, b"", USAGE),
     ):  # fmt: skip
         got = subprocess.run([PROGRAM, *words], input=b"", capture_output=True, check=False)

@@ -6,7 +6,7 @@ use Rattle.clap.specs.Walk.{Row, Text, first_of}
 use Rattle.clap.proofs.{WalkLemmas.first_value-rows, WalkLemmas.one_text-rows, WalkLemmas.raw_values-rows}
 use Rattle.bd_cli_args.specs.CommandLine.{find_app, find_options_in}
 use Rattle.bd_cli_args.specs.FileCommands.{file_app}
-use Rattle.bd_cli_args.specs.WideLine.{OrderView, wide_commands, check, dump, pack, order, line_app, order_app, ordered_by, texts_in}
+use Rattle.bd_cli_args.specs.WideLine.{OrderView, wide_commands, check, dump, dump_app, pack, order, line_app, order_app, ordered_by, texts_in}
 use Rattle.bd_cli_args.proofs.ProgramLemmas.{EachShape, HasOrders, IsProgram, file_given, file_orders, refused, shape_in}
 
 pub is_program : IsProgram line_app ordered_by
@@ -17,8 +17,8 @@ is_program = record {
   plain = refl;
   requires_one = λ rows c. refused MissingSubcommand c;
   each = (
-    of_file (codes "dump") dump (λ rows. refl),
-    (of_file (codes "check") check (λ rows. refl), (of_file (codes "pack") pack (λ rows. refl), (finds, (orders, tt)))),
+    of_file (codes "check") check (λ rows. refl),
+    (of_file (codes "pack") pack (λ rows. refl), (finds, (dumps, (orders, tt)))),
   );
 }
   where
@@ -27,6 +27,9 @@ is_program = record {
 
     finds : HasOrders line_app ordered_by (shape_in line_app find_app)
     finds = file_orders line_app ordered_by (shape_in line_app find_app) (λ rows file. OrderView.find file (find_options_in rows)) refl (λ rows c. file_given _ _ c) (λ rows. refl)
+
+    dumps : HasOrders line_app ordered_by (shape_in line_app dump_app)
+    dumps = file_orders line_app ordered_by (shape_in line_app dump_app) (λ rows file. dump file (first_of (codes "jsonFormat") rows)) refl (λ rows c. file_given _ _ c) (λ rows. refl)
 
     orders : HasOrders line_app ordered_by (shape_in line_app order_app)
     orders = file_orders line_app ordered_by (shape_in line_app order_app) (λ rows file. order file (texts_in (codes "path") rows)) refl (λ rows c. file_given _ _ c) (λ rows. refl)

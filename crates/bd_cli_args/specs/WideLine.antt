@@ -1,13 +1,13 @@
 -- The command lines that `bsonwide` accepts, by the parser's own definition,
 -- and the command that each one means.
-use Rattle.std.specs.Prelude.{List, [], ◌∷◌, map, codes, string_bytes, unwrap_or, Option, Some, option_map, option_and_then}
+use Rattle.std.specs.Prelude.{List, [], ◌∷◌, false, map, codes, string_bytes, unwrap_or, Option, Some, option_map, option_and_then}
 use Rattle.std.specs.Map.{lookup}
 use Rattle.std.specs.Str.{bytes_eq}
 use Rattle.clap.specs.Lexer.{usize_max}
 use Rattle.clap.specs.Simple.{App, new_rule, with_rule, with_subcommand}
 use Rattle.clap.specs.Walk.{Row, Rule, Text, all_of, first_of}
 use Rattle.clap.specs.declared.builder.action.ArgAction.{ArgAction}
-use Rattle.bd_cli_args.specs.CommandLine.{find_app, find_options_in}
+use Rattle.bd_cli_args.specs.CommandLine.{find_app, find_options_in, with_options}
 use Rattle.bd_cli_args.specs.FileCommands.{file_app, order_by, program_app, refusal_by}
 use Rattle.bd_cli_args.specs.FindOptions.{FindOptions}
 use Rattle.bd_cli_args.specs.declared.order.WordsFault.{WordsFault}
@@ -24,15 +24,19 @@ paths_rule = record (new_rule (codes "path")) {
 abbrev pub order_app : App
 order_app = with_rule (file_app (codes "order")) paths_rule
 
--- the command lines that `bsonwide` accepts: `dump`, `check` or `pack` with one file,
--- `find` with one file and its options, and `order` with one file and any paths
+-- `dump`, which takes a file and a format
+abbrev pub dump_app : App
+dump_app = with_options (file_app (codes "dump")) ((codes "jsonFormat", false) ∷ [])
+
+-- the command lines that `bsonwide` accepts: `check` or `pack` with one file,
+-- `find` or `dump` with one file and its options, and `order` with one file and any paths
 abbrev pub line_app : App
-line_app =
-    with_subcommand (program_app (codes "bsonwide") (codes "dump" ∷ codes "check" ∷ codes "pack" ∷ []) find_app) order_app.top
+line_app = with_subcommand
+    (with_subcommand (program_app (codes "bsonwide") (codes "check" ∷ codes "pack" ∷ []) find_app) dump_app.top) order_app.top
 
 -- a command: the meaning of the arguments, with texts as their bytes
 pub data OrderView : Type 0 where
-  dump : Text → OrderView
+  dump : Text → Option Text → OrderView
   check : Text → OrderView
   pack : Text → OrderView
   find : Text → FindOptions → OrderView
@@ -40,7 +44,7 @@ pub data OrderView : Type 0 where
 
 -- the command that a `WideOrder` in memory represents
 abbrev pub meant : WideOrder → OrderView
-meant (WideOrder.Dump file) = dump (string_bytes file)
+meant (WideOrder.Dump file format) = dump (string_bytes file) (option_map string_bytes format)
 meant (WideOrder.Check file) = check (string_bytes file)
 meant (WideOrder.Pack file) = pack (string_bytes file)
 meant (WideOrder.Find file options) = find (string_bytes file) options
@@ -52,7 +56,7 @@ texts_in name rows = unwrap_or (all_of name rows) []
 
 -- what each command does with its FILE, by its name
 abbrev pub wide_commands : List Row → List (Text × (Text → OrderView))
-wide_commands rows = (codes "dump", dump) ∷ (codes "check", check) ∷ (codes "pack", pack)
+wide_commands rows = (codes "dump", λ file. dump file (first_of (codes "jsonFormat") rows)) ∷ (codes "check", check) ∷ (codes "pack", pack)
     ∷ (codes "find", λ file. find file (find_options_in rows))
     ∷ (codes "order", λ file. order file (texts_in (codes "path") rows)) ∷ []
 

@@ -172,7 +172,11 @@ pub(crate) fn options_of(alloc: Global, matches: &ArgMatches<'_>) -> Result<Find
 
 /// The text of an option, if it is given.
 #[tactic(auto, using(crate::proofs::LineLemmas::readings))]
-fn text_of(alloc: Global, found: &ArgMatches<'_>, name: &str) -> Result<Option<String>, WordsFault>
+pub(crate) fn text_of(
+    alloc: Global,
+    found: &ArgMatches<'_>,
+    name: &str,
+) -> Result<Option<String>, WordsFault>
     ensures text { IfOk result (λ o.
         option_map string_bytes o ≡ first_of name.now (rows_of (found_of found.now))) }
     ensures fault { IfErr result (λ f. f ≡ NoMemory) }
@@ -219,7 +223,11 @@ pub(crate) fn find_command<'a>(alloc: Global) -> Made<'a>
 }
 
 /// A command with these options added, and whether each takes a number.
-fn with_options<'a>(alloc: Global, command: Command<'a>, options: &[(&'a str, bool)]) -> Made<'a>
+pub(crate) fn with_options<'a>(
+    alloc: Global,
+    command: Command<'a>,
+    options: &[(&'a str, bool)],
+) -> Made<'a>
     requires { (fields_of command).has_globals ≡ false }
     ensures app { IfOk result (λ c.
         app_of c ≡ with_options (app_of command.entry) (map (λ o. (o.0.now, o.1)) options.now)) }

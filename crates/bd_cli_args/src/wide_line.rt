@@ -5,9 +5,9 @@ ghost use Rattle.clap.specs.Words.{found_of, rows_of, rule_of, takes};
 ghost use Rattle.bd_cli_args.specs.CommandLine.{words_of};
 ghost use Rattle.bd_cli_args.specs.inside.FileCommands.{IsBuiltAs};
 ghost use Rattle.bd_cli_args.specs.declared.order.WordsFault.TheVariants.{NoMemory};
-ghost use Rattle.bd_cli_args.specs.WideLine.{fault_for, line_app, meant, order_app, order_of, ordered_by, paths_rule, texts_in};
+ghost use Rattle.bd_cli_args.specs.WideLine.{dump_app, fault_for, line_app, meant, order_app, order_of, ordered_by, paths_rule, texts_in};
 
-use crate::command_line::{find_command, options_of};
+use crate::command_line::{find_command, options_of, text_of, with_options};
 use crate::file_commands::{Made, explain_error, of_file, program_command};
 use crate::order::{FindOptions, WordsFault};
 use clap::{Arg, ArgAction, ArgMatches};
@@ -16,21 +16,34 @@ use std::alloc::Global;
 /// A command with its file and paths. The file `-` is standard input.
 #[derive(Debug, Drop)]
 pub enum WideOrder {
-    /// Each document as canonical Extended JSON, one a line.
-    Dump { file: String },
+    /// Each document as Extended JSON in the format of this word, one a line; without a word the format is canonical.
+    Dump {
+        file: String,
+        format: Option<String>,
+    },
     /// A line for each document that has a fault.
-    Check { file: String },
+    Check {
+        file: String,
+    },
     /// Each line of text as a document.
-    Pack { file: String },
+    Pack {
+        file: String,
+    },
     /// The documents that the options select.
-    Find { file: String, options: FindOptions },
+    Find {
+        file: String,
+        options: FindOptions,
+    },
     /// Numbers as whole numbers in the same order; at these paths by their codes.
-    Order { file: String, paths: Vec<String> },
+    Order {
+        file: String,
+        paths: Vec<String>,
+    },
 }
 
 /// The command that the arguments mean, without the program's name.
 ///
-/// `dump FILE`, `check FILE`, `pack FILE` and `order FILE [PATH..]` are accepted, and
+/// `dump FILE [--jsonFormat FORMAT]`, `check FILE`, `pack FILE` and `order FILE [PATH..]` are accepted, and
 /// `find FILE [--query Q] [--sort S] [--skip N] [--limit N] [--batch N] [--index PATH] [--after TOKEN]`, N from 0 to
 /// 2,147,483,647, with the options in any order, each at most once, and FILE before or after them. `--skip` and `--limit` are 0
 /// by default. A file or a path whose name looks like a flag comes after `--`.
@@ -70,7 +83,10 @@ fn order_named(alloc: Global, name: &str, matches: &ArgMatches<'_>) -> Result<Wi
     };
     let file = String::from_str(alloc, file)?;
     match name {
-        "dump" => Ok(WideOrder::Dump { file }),
+        "dump" => {
+            let format = text_of(alloc, matches, "jsonFormat")?;
+            Ok(WideOrder::Dump { file, format })
+        }
         "check" => Ok(WideOrder::Check { file }),
         "pack" => Ok(WideOrder::Pack { file }),
         "find" => {
@@ -118,7 +134,15 @@ fn line_command<'a>(alloc: Global) -> Made<'a>
     ensures { IfOk result (IsBuiltAs line_app) }
 {
     let line = program_command(alloc, "bsonwide", &FILE_COMMANDS, find_command(alloc)?)?;
+    let line = line.subcommand(dump_command(alloc)?)?;
     line.subcommand(order_command(alloc)?)
+}
+
+/// The command that takes a file and a format.
+fn dump_command<'a>(alloc: Global) -> Made<'a>
+    ensures { IfOk result (IsBuiltAs dump_app) }
+{
+    with_options(alloc, of_file(alloc, "dump")?, &[("jsonFormat", false)])
 }
 
 /// The command that takes paths after its file.
@@ -137,4 +161,4 @@ fn paths_argument<'a>(alloc: Global) -> Arg<'a>
 }
 
 /// The commands that take only a file.
-const FILE_COMMANDS: [&str; 3] = ["dump", "check", "pack"];
+const FILE_COMMANDS: [&str; 2] = ["check", "pack"];

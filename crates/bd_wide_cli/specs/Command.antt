@@ -12,7 +12,7 @@ use Rattle.bd_wide_cli.specs.declared.command.Command.TheVariants as commands
 -- A run of the command did this.
 abbrev pub RunsCommand : Command → Over Reader → Over Writer → Over Writer → Status → Type 0
 RunsCommand commands.Check file out err status = Prints (codes "bsonwide") (check_run_under All file) out err status
-RunsCommand commands.Dump file out err status = Prints (codes "bsonwide") (dump_run_by all_types file) out err status
+RunsCommand (commands.Dump format) file out err status = Prints (codes "bsonwide") (dump_run_by (all_types format) file) out err status
 RunsCommand commands.Pack file out err status = Prints (codes "bsonwide") (pack_run_by packing.all_types file) out err status
 RunsCommand (commands.Find options) file out err status = Prints (codes "bsonwide") (wide_find_run options file) out err status
 RunsCommand (commands.Order order) file out err status = FiltersInput order.paths.items file out err status

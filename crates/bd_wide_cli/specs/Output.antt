@@ -27,7 +27,7 @@ version = codes "bsonwide 0.1.0\n"
 
 -- the usage of `bsonwide`
 abbrev pub usage : List ℕ
-usage = codes "usage: bsonwide dump FILE\n"
+usage = codes "usage: bsonwide dump FILE [--jsonFormat FORMAT]\n"
     ++ codes "       bsonwide check FILE\n"
     ++ codes "       bsonwide pack FILE\n"
     ++ codes "       bsonwide find FILE [--query Q] [--sort S] [--skip N] [--limit N] [--batch N] [--index PATH] [--after TOKEN]\n"

@@ -1,21 +1,21 @@
 //! Runs of a command over devices.
 
 ghost use Rattle.bd_io_device.specs.Devices.{over};
-ghost use Rattle.std.specs.Prelude.{◌≡◌};
+ghost use Rattle.std.specs.Prelude.{◌≡◌, option_map};
 ghost use Rattle.bd_wide_cli.specs.Command.{RunsCommand, block_size};
+ghost use Rattle.bd_wide_cli.specs.Dump.{format_named};
 
-use crate::dump::WideLines;
+use crate::dump::dump;
 use crate::output::PROGRAM;
 use crate::pack::WideLinePacker;
 use crate::running::filter_file;
-use bd_cli_args::FindOptions;
+use bd_cli_args::{FindOptions, WordsFault};
 use bd_cli_files::pack::pack_by;
 use bd_cli_scan::Status;
 use bd_cli_scan::check::check_all_types;
-use bd_cli_scan::dump::dump_by;
 use bd_io_device::{Input, Output};
 use bd_wide::Order;
-use bd_wide_dump::WideTextBuffer;
+use bd_wide_dump::JsonFormat;
 use bd_wide_find::find::find;
 use bd_wide_pack::WidePacker;
 use std::alloc::Global;
@@ -25,8 +25,8 @@ use std::alloc::Global;
 pub enum Command {
     /// A line for each document that has a fault.
     Check,
-    /// Each document as canonical Extended JSON, one a line.
-    Dump,
+    /// Each document as Extended JSON in this format, one a line.
+    Dump(JsonFormat),
     /// Each line of canonical Extended JSON as a document.
     Pack,
     /// The documents that these options request, one a line.
@@ -50,10 +50,7 @@ pub fn run<R: Input, O: Output, E: Output>(
 {
     match command {
         Command::Check => check_all_types(alloc, PROGRAM, file, out, err),
-        Command::Dump => {
-            let buffer = WideTextBuffer::new(alloc);
-            dump_by(alloc, PROGRAM, WideLines { buffer }, file, out, err)
-        }
+        Command::Dump(format) => dump(alloc, *format, file, out, err),
         Command::Pack => {
             let packer = WidePacker::new(alloc);
             pack_by(alloc, PROGRAM, WideLinePacker { packer }, file, out, err)
@@ -69,7 +66,22 @@ pub fn block_size(command: &Command) -> usize
     ensures { result ≡ block_size command.now }
 {
     match command {
-        Command::Check | Command::Dump | Command::Pack | Command::Find(_) => 65_536,
+        Command::Check | Command::Dump(_) | Command::Pack | Command::Find(_) => 65_536,
         Command::Order(_) => 16_384,
+    }
+}
+
+/// The format that the word of `--jsonFormat` names, `canonical` or `relaxed`; canonical if there is no word.
+///
+/// # Errors
+///
+/// `Usage` for any other word.
+pub fn read_format(word: Option<&str>) -> Result<JsonFormat, WordsFault>
+    ensures { result ≡ format_named (option_map (λ w. w.now) word.entry) }
+{
+    match word {
+        None | Some("canonical") => Ok(JsonFormat::Canonical),
+        Some("relaxed") => Ok(JsonFormat::Relaxed),
+        Some(_) => Err(WordsFault::Usage),
     }
 }

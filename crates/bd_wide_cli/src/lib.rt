@@ -10,12 +10,13 @@
 //! let mut out = MemoryOutput::new(&mut buffer, 100, None);
 //! let mut reported = [0; 100];
 //! let mut err = MemoryOutput::new(&mut reported, 100, None);
-//! let status = run(rt.alloc(), &Command::Dump, &mut input, &mut out, &mut err);
+//! let command = Command::Dump(JsonFormat::Canonical);
+//! let status = run(rt.alloc(), &command, &mut input, &mut out, &mut err);
 //! assert!(rt; status == Status::Done);
 //! assert!(rt; out.bytes() == b"{}\n".as_slice());
 //! ```
 //!
-//! - `command`: `Command`, and `run`, a whole run over devices.
+//! - `command`: `Command`, and `run`, a whole run over devices; `read_format`, the format of a word.
 //! - `dump`: the lines of documents of all types.
 //! - `pack`: the documents of all types in lines.
 //! - `frame`: the next document of a device, or bytes that begin with no document.
@@ -32,6 +33,6 @@ mod pack;
 mod refusal;
 mod running;
 
-pub use command::{Command, block_size, run};
+pub use command::{Command, block_size, read_format, run};
 pub use output::{PROGRAM, report, version};
 pub use running::Stop;

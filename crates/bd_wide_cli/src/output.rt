@@ -44,7 +44,7 @@ pub(crate) fn report_stop<E: Output>(stop: &Stop, err: &mut E) -> Status
 }
 
 /// The answer to a request for help and to invalid arguments.
-const USAGE: &str = "usage: bsonwide dump FILE
+const USAGE: &str = "usage: bsonwide dump FILE [--jsonFormat FORMAT]
        bsonwide check FILE
        bsonwide pack FILE
        bsonwide find FILE [--query Q] [--sort S] [--skip N] [--limit N] [--batch N] [--index PATH] [--after TOKEN]

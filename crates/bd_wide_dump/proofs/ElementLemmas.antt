@@ -14,9 +14,9 @@ use Rattle.bd_bson_view.specs.Sizes.{zero_at, name_of, NameAt}
 use Rattle.bd_bson_view.specs.Unique.{type_is, zero_offset, name_prefix, scalar_size}
 use Rattle.bd_bson_view.proofs.ValueAtLemmas.{name_reads, scalar_reads, framed_length, framed_size, scoped_length, scoped_size}
 use Rattle.bd_bson_view.proofs.ElementsLemmas.{head_at}
-use Rattle.bd_extjson_text.specs.Text.{scalar_text}
 use Rattle.bd_wide_dump.specs.Raw.{raw, byte_of}
-use Rattle.bd_wide_dump.specs.WideText.{IsScalarText}
+use Rattle.bd_wide_dump.specs.declared.format.JsonFormat.{JsonFormat}
+use Rattle.bd_wide_dump.specs.WideText.{IsKindText, IsScalarText}
 use Rattle.bd_wide_dump.specs.inside.Begins.{values_in, HasElements, is_whole, IsTyped, a_number, a_scalar, a_document, an_array, a_code, IsElement, wide_size, HasSize}
 
 -- ---- type bytes
@@ -51,7 +51,7 @@ from_items no_items b h = (no_fields, h, refl)
 from_items (item t ts) b h = let r = from_items ts h.2 h.5 in (field h.0 t r.0, (h.1, h.2, h.3, h.4, r.1, h.6), ap (item t) r.2)
 
 module _ (name value : List ℕ) where
-  plain : (a : Scalar) → is_whole (scalar_kind a) ≡ false → IsScalarText a (scalar_text a) → written_typed (leaf a) name value ≡ element (leaf a) name value → IsScalar a value
+  plain : (a : Scalar) → is_whole (scalar_kind a) ≡ false → ((format : JsonFormat) (text : List ℕ) → IsKindText format a text → IsScalarText format a text) → written_typed (leaf a) name value ≡ element (leaf a) name value → IsScalar a value
       → Written (leaf a) name value
   plain a other text_is w h = record {
     type = Kept (scalar_kind a);
@@ -68,20 +68,20 @@ module _ (name value : List ℕ) where
     spells = a_number (record { kind = h.kind; z = z; is = refl; typed = refl; sized = h.sized; worth = h.is_worth });
     whole = ap (λ (x : List ℕ). written_typed (leaf (trees.int64 z)) name x) h.typed ∙ ap (λ (b : ℕ). b ∷ (name ++ 0 ∷ h.value)) (sym (number_typed h.kind));
   }
-  written_leaf trees.min_key h = plain trees.min_key refl refl refl h
-  written_leaf trees.undefined h = plain trees.undefined refl refl refl h
-  written_leaf trees.null h = plain trees.null refl refl refl h
-  written_leaf (trees.text s) h = plain (trees.text s) refl refl refl h
-  written_leaf (trees.symbol s) h = plain (trees.symbol s) refl refl refl h
-  written_leaf (trees.binary k s) h = plain (trees.binary k s) refl refl refl h
-  written_leaf (trees.object_id s) h = plain (trees.object_id s) refl refl refl h
-  written_leaf (trees.boolean b) h = plain (trees.boolean b) refl refl refl h
-  written_leaf (trees.date z) h = plain (trees.date z) refl refl refl h
-  written_leaf (trees.timestamp s i) h = plain (trees.timestamp s i) refl refl refl h
-  written_leaf (trees.regex p o) h = plain (trees.regex p o) refl refl refl h
-  written_leaf (trees.db_pointer s i) h = plain (trees.db_pointer s i) refl refl refl h
-  written_leaf (trees.code s) h = plain (trees.code s) refl refl refl h
-  written_leaf trees.max_key h = plain trees.max_key refl refl refl h
+  written_leaf trees.min_key h = plain trees.min_key refl (λ f x t. t) refl h
+  written_leaf trees.undefined h = plain trees.undefined refl (λ f x t. t) refl h
+  written_leaf trees.null h = plain trees.null refl (λ f x t. t) refl h
+  written_leaf (trees.text s) h = plain (trees.text s) refl (λ f x t. t) refl h
+  written_leaf (trees.symbol s) h = plain (trees.symbol s) refl (λ f x t. t) refl h
+  written_leaf (trees.binary k s) h = plain (trees.binary k s) refl (λ f x t. t) refl h
+  written_leaf (trees.object_id s) h = plain (trees.object_id s) refl (λ f x t. t) refl h
+  written_leaf (trees.boolean b) h = plain (trees.boolean b) refl (λ f x t. t) refl h
+  written_leaf (trees.date z) h = plain (trees.date z) refl (λ f x t. t) refl h
+  written_leaf (trees.timestamp s i) h = plain (trees.timestamp s i) refl (λ f x t. t) refl h
+  written_leaf (trees.regex p o) h = plain (trees.regex p o) refl (λ f x t. t) refl h
+  written_leaf (trees.db_pointer s i) h = plain (trees.db_pointer s i) refl (λ f x t. t) refl h
+  written_leaf (trees.code s) h = plain (trees.code s) refl (λ f x t. t) refl h
+  written_leaf trees.max_key h = plain trees.max_key refl (λ f x t. t) refl h
 
   unfoldable pub written_by : (t : Tree) → IsValueBy (valued raw) t value → Written t name value
   written_by (leaf a) h = written_leaf a h

@@ -16,6 +16,7 @@ use Rattle.bd_bson_view.specs.Unique.{type_is, byte_is_not_zero, scalar_back, sc
 use Rattle.bd_extjson_text.specs.Text.{scalar_text, text, fields_text, items_text, object, listed, member, quoted}
 use Rattle.std.specs.Prelude.{codes}
 use Rattle.bd_wide_dump.specs.Raw.{raw, byte_of}
+use Rattle.bd_wide_dump.specs.declared.format.JsonFormat.TheVariants.{Canonical}
 use Rattle.bd_wide_dump.specs.WideText.{AreBytes, IsNumberText, IsRawText, IsScalarText, IsTextOf, AreTexts, AreMembers, IsLineOf}
 use Rattle.bd_wide_dump.specs.inside.Begins.{values_in, is_whole, IsTyped, a_number, a_scalar, a_document, an_array, a_code}
 use Rattle.bd_wide_dump.proofs.ElementLemmas.{byte_type, some_byte, Written, written_by, regroup}
@@ -45,16 +46,16 @@ long_bytes n (suc (suc (suc (suc (suc (suc (suc zero))))))) = omega arith
 long_bytes n (suc (suc (suc (suc (suc (suc (suc (suc i)))))))) = omega arith
 
 -- a number's text is by its content type and bytes
-raw_text_is : (k : NumberKind) (content x : List ℕ) (z : ℤ) → AreBytes content → length content ≡ number_size k → raw (number_type k) content ≡ z → IsRawText z x → IsNumberText k content x
+raw_text_is : (k : NumberKind) (content x : List ℕ) (z : ℤ) → AreBytes content → length content ≡ number_size k → raw (number_type k) content ≡ z → IsRawText Canonical z x → IsNumberText Canonical k content x
 raw_text_is k content x z fits sized is r =
     let s = raw_same k r.kind content r.value fits r.fits sized r.sized (is ∙ sym r.is) in
-    let P : List ℕ → Type 0 = λ v. IsNumberText k v x in
-    let Q : NumberKind → Type 0 = λ j. IsNumberText j r.value x in
+    let P : List ℕ → Type 0 = λ v. IsNumberText Canonical k v x in
+    let Q : NumberKind → Type 0 = λ j. IsNumberText Canonical j r.value x in
     subst P (sym s.1) (subst Q (sym s.0) r.written)
 
 -- what is the text of the one value is that of the other
 abbrev Agree : Tree → Tree → Type 0
-Agree t u = (x : List ℕ) → IsTextOf u x → x ≡ text t
+Agree t u = (x : List ℕ) → IsTextOf Canonical u x → x ≡ text t
 
 -- equal bytes begin with equal bytes if these are as many
 pub same_length : (v content r s : List ℕ) → v ++ r ≡ content ++ s → length v ≡ length content → v ≡ content
@@ -81,17 +82,17 @@ number_agrees a u v content r s as_int32 z h is typed sized worth splits =
     let same = same_length v content r s splits (size ∙ sym sized) in
     let back : trees.int32 (cast_signed w32 (number_of v)) ≡ a = ap (λ (k : Kind). scalar_at k v) (sym kinded) ∙ read_back a v h in
     let fits = subst AreBytes same (content_fits a v (ap is_whole kinded) h) in
-    (same, λ x t. raw_text_is as_int32 content x z fits sized worth (subst (λ (w : Tree). IsTextOf w x) is t) ∙ ap (λ (y : List ℕ). scalar_text (trees.int32 (cast_signed w32 (number_of y)))) (sym same) ∙ ap scalar_text back)
+    (same, λ x t. raw_text_is as_int32 content x z fits sized worth (subst (λ (w : Tree). IsTextOf Canonical w x) is t) ∙ ap (λ (y : List ℕ). scalar_text (trees.int32 (cast_signed w32 (number_of y)))) (sym same) ∙ ap scalar_text back)
 number_agrees a u v content r s as_int64 z h is typed sized worth splits =
     let kinded : scalar_kind a ≡ kinds.Int64 = cc in
     let size : length v ≡ 8 = sym (size_back a v h) ∙ ap (λ (k : Kind). size_of k v) kinded in
     let same = same_length v content r s splits (size ∙ sym sized) in
     let back : trees.int64 (cast_signed w64 (long_of v)) ≡ a = ap (λ (k : Kind). scalar_at k v) (sym kinded) ∙ read_back a v h in
     let fits = subst AreBytes same (content_fits a v (ap is_whole kinded) h) in
-    (same, λ x t. raw_text_is as_int64 content x z fits sized worth (subst (λ (w : Tree). IsTextOf w x) is t) ∙ ap (λ (y : List ℕ). scalar_text (trees.int64 (cast_signed w64 (long_of y)))) (sym same) ∙ ap scalar_text back)
+    (same, λ x t. raw_text_is as_int64 content x z fits sized worth (subst (λ (w : Tree). IsTextOf Canonical w x) is t) ∙ ap (λ (y : List ℕ). scalar_text (trees.int64 (cast_signed w64 (long_of y)))) (sym same) ∙ ap scalar_text back)
 
 -- a scalar that is no number has one text
-one_text : (a : Scalar) → is_whole (scalar_kind a) ≡ false → (x : List ℕ) → IsScalarText a x → x ≡ scalar_text a
+one_text : (a : Scalar) → is_whole (scalar_kind a) ≡ false → (x : List ℕ) → IsScalarText Canonical a x → x ≡ scalar_text a
 one_text (trees.int64 z) other x h = absurd cc
 one_text _ other x h = h
 
@@ -99,7 +100,7 @@ leaf_agrees : (a : Scalar) (u : Tree) (v content r s : List ℕ) → IsScalar a 
 leaf_agrees a u v content r s h (a_number n) is = number_agrees a u v content r s n.kind n.z h n.is n.typed n.sized n.worth is
 leaf_agrees a u v content r s h (a_scalar o) is =
     let e = scalars a o.scalar v content r s h o.spells (cc (o.typed)) is in
-    (e.1, λ x t. one_text o.scalar o.other x (subst (λ (w : Tree). IsTextOf w x) o.is t) ∙ ap scalar_text (sym e.0))
+    (e.1, λ x t. one_text o.scalar o.other x (subst (λ (w : Tree). IsTextOf Canonical w x) o.is t) ∙ ap scalar_text (sym e.0))
 leaf_agrees a u v content r s h (a_document d) is = absurd (no_holder a kinds.Doc (cc (d.typed)) refl)
 leaf_agrees a u v content r s h (an_array d) is = absurd (no_holder a kinds.Array (cc (d.typed)) refl)
 leaf_agrees a u v content r s h (a_code d) is = absurd (no_holder a kinds.CodeScope (cc (d.typed)) refl)
@@ -145,14 +146,14 @@ mutual
   value_agrees (leaf a) u v content r s h o is = leaf_agrees a u v content r s h o is
   value_agrees (doc fs) u v content r s h (a_document d) is =
       let e = fields_agree fs d.fields h.0 d.body r s h.1 d.spell (bodies h.0 d.body v content r s h.2 d.frame is) in
-      (h.2 ∙ ap framed e.0 ∙ sym d.frame, λ x t. let w = subst (λ (w : Tree). IsTextOf w x) d.is t in w.2 ∙ ap object (e.1 w.0 w.1))
+      (h.2 ∙ ap framed e.0 ∙ sym d.frame, λ x t. let w = subst (λ (w : Tree). IsTextOf Canonical w x) d.is t in w.2 ∙ ap object (e.1 w.0 w.1))
   value_agrees (doc fs) u v content r s h (a_number n) is = absurd (number_no_holder n.kind kinds.Doc refl n.typed)
   value_agrees (doc fs) u v content r s h (a_scalar o) is = absurd (no_holder o.scalar kinds.Doc (cc (o.typed)) refl)
   value_agrees (doc fs) u v content r s h (an_array d) is = absurd (cc (d.typed))
   value_agrees (doc fs) u v content r s h (a_code d) is = absurd (cc (d.typed))
   value_agrees (array ts) u v content r s h (an_array d) is =
       let e = items_agree ts d.fields h.0 d.body r s h.1 d.spell (bodies h.0 d.body v content r s h.2 d.frame is) in
-      (h.2 ∙ ap framed e.0 ∙ sym d.frame, λ x t. let w = subst (λ (w : Tree). IsTextOf w x) d.is t in w.2 ∙ ap listed (e.1 w.0 w.1))
+      (h.2 ∙ ap framed e.0 ∙ sym d.frame, λ x t. let w = subst (λ (w : Tree). IsTextOf Canonical w x) d.is t in w.2 ∙ ap listed (e.1 w.0 w.1))
   value_agrees (array ts) u v content r s h (a_number n) is = absurd (number_no_holder n.kind kinds.Array refl n.typed)
   value_agrees (array ts) u v content r s h (a_scalar o) is = absurd (no_holder o.scalar kinds.Array (cc (o.typed)) refl)
   value_agrees (array ts) u v content r s h (a_document d) is = absurd (cc (d.typed))
@@ -161,7 +162,7 @@ mutual
       let c = same_code z d.code (framed h.0) (framed d.body) r s v content h.3 d.text_fits h.2 d.frame is in
       let e = fields_agree fs d.fields h.0 d.body r s h.1 d.spell (bodies h.0 d.body (framed h.0) (framed d.body) r s refl refl c.1) in (
         h.2 ∙ ap₂ (λ (x b : List ℕ). scoped x (framed b)) c.0 e.0 ∙ sym d.frame,
-        λ x t. let w = subst (λ (w : Tree). IsTextOf w x) d.is t in w.2
+        λ x t. let w = subst (λ (w : Tree). IsTextOf Canonical w x) d.is t in w.2
             ∙ ap₂ (λ (k : List ℕ) (ms : List (List ℕ)). object (member (codes "$code") (quoted k) ∷ member (codes "$scope") (object ms) ∷ [])) (sym c.0) (e.1 w.0 w.1),
       )
   value_agrees (code_scope z fs) u v content r s h (a_number n) is = absurd (number_no_holder n.kind kinds.CodeScope refl n.typed)
@@ -170,7 +171,7 @@ mutual
   value_agrees (code_scope z fs) u v content r s h (an_array d) is = absurd (cc (d.typed))
 
   fields_agree : (fs gs : Fields) (b c r s : List ℕ) → AreFields fs b → AreFieldsBy (valued raw) gs c → b ++ 0 ∷ r ≡ c ++ 0 ∷ s
-      → (b ≡ c) × ((ms : List (List ℕ)) → AreMembers gs ms → ms ≡ fields_text fs)
+      → (b ≡ c) × ((ms : List (List ℕ)) → AreMembers Canonical gs ms → ms ≡ fields_text fs)
   fields_agree no_fields no_fields b c r s p q h = (p ∙ sym q, λ ms are. are)
   fields_agree no_fields (field m u gs) b c r s p q h = absurd (none_first u m q.0 q.1 r s b c (written_by m q.0 u q.3) p q.5 h)
   fields_agree (field n t fs) no_fields b c r s p q h = absurd (no_more t n p.0 p.1 r s b c q p.5 h)
@@ -184,7 +185,7 @@ mutual
       )
 
   items_agree : (ts : Items) (gs : Fields) (b c r s : List ℕ) → AreItems ts b → AreFieldsBy (valued raw) gs c → b ++ 0 ∷ r ≡ c ++ 0 ∷ s
-      → (b ≡ c) × ((ms : List (List ℕ)) → AreTexts (values_in gs) ms → ms ≡ items_text ts)
+      → (b ≡ c) × ((ms : List (List ℕ)) → AreTexts Canonical (values_in gs) ms → ms ≡ items_text ts)
   items_agree no_items no_fields b c r s p q h = (p ∙ sym q, λ ms are. are)
   items_agree no_items (field m u gs) b c r s p q h = absurd (none_first u m q.0 q.1 r s b c (written_by m q.0 u q.3) p q.5 h)
   items_agree (item t ts) no_fields b c r s p q h = absurd (no_more t p.0 p.1 p.2 r s b c q p.6 h)
@@ -198,7 +199,7 @@ mutual
       )
 
 -- the line of a document of the nineteen kinds
-pub plain_line : (d : Doc) (bytes line : List ℕ) → IsDocument d bytes → IsLineOf bytes line → line ≡ text (doc (fields_of d)) ++ 10 ∷ []
+pub plain_line : (d : Doc) (bytes line : List ℕ) → IsDocument d bytes → IsLineOf Canonical bytes line → line ≡ text (doc (fields_of d)) ++ 10 ∷ []
 plain_line d bytes line is l =
     let t = l.1 in
     let w = t.1.spells in

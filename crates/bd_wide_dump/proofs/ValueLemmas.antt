@@ -5,6 +5,7 @@ use Rattle.std.specs.Int.{w32, w64, from_le_bytes, cast_signed, cast_unsigned}
 use Rattle.std.proofs.lemmas.Int.{ints, of_z-to_z}
 use Rattle.std.proofs.lemmas.Nat.{le_bytes_4, le_bytes_8}
 use Rattle.std.proofs.lemmas.List.{drop_at, take_at, take_all, take-append-le, drop-append-le, length-append, length-drop, drop-drop}
+use Rattle.std.specs.Float.{Ieee.of_bits, binary64}
 use Rattle.bd_value.specs.{View.scalar_kind}
 use Rattle.bd_value.specs.declared.node.Kind.{Kind}
 use Rattle.bd_value.specs.declared.node.Kind.TheVariants as kinds
@@ -19,12 +20,11 @@ use Rattle.bd_bson_view.specs.Unique.{number_after, no_holder, framed_after, str
 use Rattle.bd_bson_view.specs.Sound.{Sound, meaning, meaning_is}
 use Rattle.bd_bson_view.proofs.ValueAtLemmas.{text_reads}
 use Rattle.bd_bson_check.proofs.FirstFaultLemmas.{IsBytes-take}
-use Rattle.bd_extjson_text.specs.Text.{scalar_text, text}
-use Rattle.bd_extjson_text.specs.Buffer.{Appends}
-use Rattle.bd_wide_text.specs.{Double.IsDoubleText, Decimal128.decimal128_text}
+use Rattle.bd_wide_text.specs.{Decimal128.decimal128_text}
 use Rattle.bd_wide_dump.specs.Raw.{raw}
-use Rattle.bd_wide_dump.specs.WideText.{AreBytes, IsNumberText, IsRawText, IsTextOf}
-use Rattle.bd_wide_dump.specs.inside.Begins.{values_in, HasElements, IsNumberOf, IsTyped, a_number, a_scalar, a_document, an_array, a_code, HasValue, AppendsText, AppendsNumber}
+use Rattle.bd_wide_dump.specs.declared.format.JsonFormat.{JsonFormat}
+use Rattle.bd_wide_dump.specs.WideText.{AreBytes, IsDoubleIn, IsKindText, IsNumberText, IsRawText, IsTextOf, is_bare}
+use Rattle.bd_wide_dump.specs.inside.Begins.{values_in, HasElements, IsNumberOf, IsTyped, a_number, a_scalar, a_document, an_array, a_code, HasValue, AppendsBy, AppendsText}
 
 -- ---- numbers
 
@@ -68,37 +68,42 @@ drop_content : (n : ℕ) (content after : List ℕ) → n ≤ length content →
 drop_content n content after le = drop-append-le n content after le
 
 -- the text of a number depends on its content alone
-narrow : (k : NumberKind) (content after text : List ℕ) → length content ≡ number_size k → IsNumberText k (content ++ after) text → IsNumberText k content text
-narrow as_double content after text s h = (h.0, subst (λ (n : ℕ). IsDoubleText n h.0) (long_same content after (omega (arith, s))) h.1, h.2)
-narrow as_decimal128 content after text s h = h ∙ ap₂ (λ (low high : ℕ). codes "{\"$numberDecimal\":\"" ++ (decimal128_text low high ++ codes "\"}")) (long_same content after (omega (arith, s)))
+narrow : (format : JsonFormat) (k : NumberKind) (content after text : List ℕ) → length content ≡ number_size k → IsNumberText format k (content ++ after) text → IsNumberText format k content text
+narrow format as_double content after text s h =
+    subst (λ (n : ℕ). IsDoubleIn (is_bare format (of_bits binary64 n)) n text) (long_same content after (omega (arith, s))) h
+narrow format as_decimal128 content after text s h = h ∙ ap₂ (λ (low high : ℕ). codes "{\"$numberDecimal\":\"" ++ (decimal128_text low high ++ codes "\"}")) (long_same content after (omega (arith, s)))
     (ap long_of (drop_content 8 content after (omega (arith, s))) ∙ long_same (drop 8 content) after (omega (arith, s, length-drop 8 content)))
-narrow as_int32 content after text s h = h ∙ ap (λ (x : List ℕ). scalar_text (trees.int32 (cast_signed w32 (from_le_bytes w32 x)))) (take-append-le 4 content after (omega (arith, s)))
-narrow as_int64 content after text s h = h ∙ ap (λ (n : ℕ). scalar_text (trees.int64 (cast_signed w64 n))) (long_same content after (omega (arith, s)))
+narrow format as_int32 content after text s h =
+    subst (λ (x : List ℕ). IsKindText format (trees.int32 (cast_signed w32 (from_le_bytes w32 x))) text) (take-append-le 4 content after (omega (arith, s))) h
+narrow format as_int64 content after text s h =
+    subst (λ (n : ℕ). IsKindText format (trees.int64 (cast_signed w64 n)) text) (long_same content after (omega (arith, s))) h
 
 content_bytes : (bytes content after : List ℕ) → AreBytes bytes → bytes ≡ content ++ after → AreBytes content
 content_bytes bytes content after fits is =
     subst AreBytes (ap (take (length content)) is ∙ take_at content after (length content) refl) (IsBytes-take (length content) bytes fits)
 
-raw_text : (type : ElementType) (content text : List ℕ) (tree : Tree) (n : IsNumberOf type content tree) → AreBytes content → IsNumberText n.kind content text → IsTextOf tree text
-raw_text type content text tree n fits h =
-    let r : IsRawText n.z text = record { kind = n.kind; value = content; fits = fits; sized = n.sized; is = n.worth; written = h } in
-    subst (λ (t : Tree). IsTextOf t text) (sym n.is) r
+raw_text : (format : JsonFormat) (type : ElementType) (content text : List ℕ) (tree : Tree) (n : IsNumberOf type content tree) → AreBytes content → IsNumberText format n.kind content text
+    → IsTextOf format tree text
+raw_text format type content text tree n fits h =
+    let r : IsRawText format n.z text = record { kind = n.kind; value = content; fits = fits; sized = n.sized; is = n.worth; written = h } in
+    subst (λ (t : Tree). IsTextOf format t text) (sym n.is) r
 
-wide_text : (k : NumberKind) (bytes : List ℕ) (tree : Tree) → IsWide k → AreBytes bytes → HasValue (number_type k) bytes tree
-    → (text : List ℕ) → IsNumberText k bytes text → IsTextOf tree text
-wide_text k bytes tree wide fits v text h =
+wide_text : (format : JsonFormat) (k : NumberKind) (bytes : List ℕ) (tree : Tree) → IsWide k → AreBytes bytes → HasValue (number_type k) bytes tree
+    → (text : List ℕ) → IsNumberText format k bytes text → IsTextOf format tree text
+wide_text format k bytes tree wide fits v text h =
     let n = of_number k v.content tree wide v.spells in
-    let P : List ℕ → Type 0 = λ x. IsNumberText k x text in
-    let mine : IsNumberText k v.content text = narrow k v.content v.after text (content_size k v.content tree n) (subst P v.splits h) in
-    let Q : NumberKind → Type 0 = λ j. IsNumberText j v.content text in
-    raw_text (number_type k) v.content text tree n (content_bytes bytes v.content v.after fits v.splits) (subst Q (same_number k n.kind n.typed) mine)
+    let P : List ℕ → Type 0 = λ x. IsNumberText format k x text in
+    let mine : IsNumberText format k v.content text = narrow format k v.content v.after text (content_size k v.content tree n) (subst P v.splits h) in
+    let Q : NumberKind → Type 0 = λ j. IsNumberText format j v.content text in
+    raw_text format (number_type k) v.content text tree n (content_bytes bytes v.content v.after fits v.splits) (subst Q (same_number k n.kind n.typed) mine)
 
-pub wide_appended : {E : Type 0} (k : NumberKind) (type : ElementType) (bytes old : List ℕ) (end : ℕ) (new : List ℕ) (tree : Tree) (r : Result ℕ E) → IsWide k → type ≡ number_type k → AreBytes bytes
-    → HasValue type bytes tree → IfOk r (λ e. AppendsNumber k bytes old end e new) → IfOk r (λ e. AppendsText tree old end e new)
-wide_appended k type bytes old end new tree (Ok e) wide is fits v a =
+pub wide_appended : {E : Type 0} (format : JsonFormat) (k : NumberKind) (type : ElementType) (bytes old : List ℕ) (end : ℕ) (new : List ℕ) (tree : Tree) (r : Result ℕ E) → IsWide k
+    → type ≡ number_type k → AreBytes bytes → HasValue type bytes tree → IfOk r (λ e. AppendsBy (λ text. IsNumberText format k bytes text) old end e new)
+    → IfOk r (λ e. AppendsText format tree old end e new)
+wide_appended format k type bytes old end new tree (Ok e) wide is fits v a =
     let w = subst (λ (t : ElementType). HasValue t bytes tree) is v in
-    record { text = a.text; is = wide_text k bytes tree wide fits w a.text a.is; written = a.written; inside = a.inside }
-wide_appended k type bytes old end new tree (Err e) wide is fits v a = tt
+    record { text = a.text; is = wide_text format k bytes tree wide fits w a.text a.is; written = a.written; inside = a.inside }
+wide_appended format k type bytes old end new tree (Err e) wide is fits v a = tt
 
 -- ---- scalars of the nineteen kinds
 
@@ -120,25 +125,35 @@ whole64 content b size =
     let back : long (cast_unsigned w64 (cast_signed w64 n)) ≡ content = ap long (of_z-to_z w64 n below) ∙ le_bytes_8 content _ size b refl in
     rw same (search (arith, ints), sym back)
 
--- a scalar of this kind in today's sense, whose text is that of the value
+-- a scalar of the nineteen kinds, whose text is that of the value
 pub record Plain (kind : Kind) (content : List ℕ) (tree : Tree) : Type 0 where
   pub scalar : Scalar
   pub kinded : scalar_kind scalar ≡ kind
   pub spells : IsScalar scalar content
-  pub text_is : IsTextOf tree (scalar_text scalar)
+  pub text_is : (format : JsonFormat) (text : List ℕ) → IsKindText format scalar text → IsTextOf format tree text
 
 number_plain : (kind : Kind) (content : List ℕ) (tree : Tree) (k : NumberKind) (z : ℤ) → tree ≡ leaf (trees.int64 z) → Kept kind ≡ number_type k → length content ≡ number_size k
     → raw (number_type k) content ≡ z → AreBytes content → Plain kind content tree
 number_plain kind content tree as_double z is typed size worth fits = absurd cc
 number_plain kind content tree as_decimal128 z is typed size worth fits = absurd cc
 number_plain kind content tree as_int32 z is typed size worth fits =
-    let s = trees.int32 (cast_signed w32 (number_of content)) in
-    let r : IsRawText z (scalar_text s) = record { kind = as_int32; value = content; fits = fits; sized = size; is = worth; written = refl } in
-    record { scalar = s; kinded = cc; spells = whole32 content fits size; text_is = subst (λ (t : Tree). IsTextOf t (scalar_text s)) (sym is) r }
+    record {
+      scalar = trees.int32 (cast_signed w32 (number_of content));
+      kinded = cc;
+      spells = whole32 content fits size;
+      text_is = λ format text h.
+          let r : IsRawText format z text = record { kind = as_int32; value = content; fits = fits; sized = size; is = worth; written = h } in
+          subst (λ (t : Tree). IsTextOf format t text) (sym is) r;
+    }
 number_plain kind content tree as_int64 z is typed size worth fits =
-    let s = trees.int64 (cast_signed w64 (long_of content)) in
-    let r : IsRawText z (scalar_text s) = record { kind = as_int64; value = content; fits = fits; sized = size; is = worth; written = refl } in
-    record { scalar = s; kinded = cc; spells = whole64 content fits size; text_is = subst (λ (t : Tree). IsTextOf t (scalar_text s)) (sym is) r }
+    record {
+      scalar = trees.int64 (cast_signed w64 (long_of content));
+      kinded = cc;
+      spells = whole64 content fits size;
+      text_is = λ format text h.
+          let r : IsRawText format z text = record { kind = as_int64; value = content; fits = fits; sized = size; is = worth; written = h } in
+          subst (λ (t : Tree). IsTextOf format t text) (sym is) r;
+    }
 
 plain_there : (kind : Kind) (content : List ℕ) (tree : Tree) → (kind ≡ kinds.Doc → ⊥) → (kind ≡ kinds.Array → ⊥) → (kind ≡ kinds.CodeScope → ⊥) → AreBytes content → IsTyped (Kept kind) content tree
     → Plain kind content tree
@@ -147,7 +162,7 @@ plain_there kind content tree d a c fits (a_scalar s) = record {
   scalar = s.scalar;
   kinded = cc (s.typed);
   spells = s.spells;
-  text_is = subst (λ (t : Tree). IsTextOf t (scalar_text s.scalar)) (sym s.is) s.text_is;
+  text_is = λ format text h. subst (λ (t : Tree). IsTextOf format t text) (sym s.is) (s.text_is format text h);
 }
 plain_there kind content tree d a c fits (a_document x) = absurd (d (cc (x.typed)))
 plain_there kind content tree d a c fits (an_array x) = absurd (a (cc (x.typed)))
@@ -164,13 +179,18 @@ module _ (kind : Kind) (bytes : List ℕ) (d : kind ≡ kinds.Doc → ⊥) (a : 
         begins = record { value = v.content; after = v.after; spells = p.spells; typed = ap type_byte p.kinded; splits = v.splits; short = v.short };
       }
 
-  pub plain_appended : {E : Type 0} (viewed : Tree) (old : List ℕ) (end : ℕ) (new : List ℕ) (r : Result ℕ E) → ((s : Sound kind bytes) → viewed ≡ meaning s)
-      → Appends old end r new (text viewed) → (tree : Tree) → HasValue (Kept kind) bytes tree → IfOk r (λ e. AppendsText tree old end e new)
-  plain_appended viewed old end new (Ok e) is h tree v =
+  -- what a view of the bytes is of
+  pub plain_viewed : (viewed : Tree) → ((s : Sound kind bytes) → viewed ≡ meaning s) → (tree : Tree) (v : HasValue (Kept kind) bytes tree) → viewed ≡ leaf (plain_of tree v).scalar
+  plain_viewed viewed is tree v = is (sound_here tree v) ∙ meaning_is (sound_here tree v) (sound_here tree v)
+
+  pub plain_appended : {E : Type 0} (format : JsonFormat) (viewed : Tree) (old : List ℕ) (end : ℕ) (new : List ℕ) (r : Result ℕ E) → ((s : Sound kind bytes) → viewed ≡ meaning s)
+      → ((s : Scalar) → viewed ≡ leaf s → IfOk r (λ e. AppendsBy (λ text. IsKindText format s text) old end e new))
+      → (tree : Tree) → HasValue (Kept kind) bytes tree → IfOk r (λ e. AppendsText format tree old end e new)
+  plain_appended format viewed old end new (Ok e) is h tree v =
       let p = plain_of tree v in
-      let same : text viewed ≡ scalar_text p.scalar = ap text (is (sound_here tree v) ∙ meaning_is (sound_here tree v) (sound_here tree v)) in
-      record { text = text viewed; is = subst (IsTextOf tree) (sym same) p.text_is; written = h.0; inside = h.1 }
-  plain_appended viewed old end new (Err e) is h tree v = tt
+      let w = h p.scalar (plain_viewed viewed is tree v) in
+      record { text = w.text; is = p.text_is format w.text w.is; written = w.written; inside = w.inside }
+  plain_appended format viewed old end new (Err e) is h tree v = tt
 
 -- ---- values that contain values
 

@@ -1,3 +1,4 @@
 pub mod Raw
+pub mod RelaxedDate
 pub mod WideText
 pub mod inside

@@ -1,11 +1,13 @@
 //! Laws of lines. The body of each is empty: its contract is the law.
 
-ghost use Rattle.std.specs.Prelude.{◌≡◌, ℕ, List, [], ◌∷◌, ◌++◌, length};
+ghost use Rattle.std.specs.Prelude.{◌≡◌, ℕ, ℤ, List, [], ◌∷◌, ◌++◌, length};
 ghost use Rattle.bd_value.specs.Tree.{Doc, doc, fields_of};
 ghost use Rattle.bd_bson_view.specs.Spelling.{IsDocument, IsDocumentBy, NumberKind, number_size, number_type, valued};
 ghost use Rattle.bd_extjson_text.specs.Text.{text};
 ghost use Rattle.bd_wide_dump.specs.Raw.{raw};
+ghost use Rattle.bd_wide_dump.specs.RelaxedDate.{IsDateText};
 ghost use Rattle.bd_wide_dump.specs.WideText.{AreBytes, IsLineOf};
+ghost use Rattle.bd_wide_dump.specs.declared.format.JsonFormat.TheVariants.{Canonical};
 
 /// Numbers of different types or bits are different whole numbers.
 pub fn numbers_differ()
@@ -16,7 +18,7 @@ pub fn numbers_differ()
 
 /// The line of a document of the nineteen kinds is its text and a newline: what `bsonfind` prints.
 pub fn plain_lines()
-    ensures { (d : Doc) (bytes line : List ℕ) → IsDocument d bytes → IsLineOf bytes line
+    ensures { (d : Doc) (bytes line : List ℕ) → IsDocument d bytes → IsLineOf Canonical bytes line
         → line ≡ text (doc (fields_of d)) ++ 10 ∷ [] }
 {}
 
@@ -24,4 +26,9 @@ pub fn plain_lines()
 pub fn one_wide_document()
     ensures { (d e : Doc) (bytes : List ℕ) → IsDocumentBy (valued raw) d bytes →
         IsDocumentBy (valued raw) e bytes → d ≡ e }
+{}
+
+/// A date has one text in relaxed form.
+pub fn one_date_text()
+    ensures { (z : ℤ) (x y : List ℕ) → IsDateText z x → IsDateText z y → x ≡ y }
 {}

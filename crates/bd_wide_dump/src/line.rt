@@ -11,11 +11,11 @@ ghost use Rattle.bd_wide_dump.specs.WideText.{IsLineOf, IsTextOfBytes};
 ghost use Rattle.bd_wide_dump.specs.inside.Begins.{AppendsText, HasElements, HasValue, values_in};
 
 use crate::element::element_at;
+use crate::format::JsonFormat;
 use crate::number::{append_decimal128, append_double};
+use crate::relaxed::append_kind;
 use bd_bson_view::{ElementType, RawValue, raw_parts as parts};
-use bd_extjson_text::{
-    End, VALUE, append_few, append_led, append_name, append_node, append_separator,
-};
+use bd_extjson_text::{End, VALUE, append_few, append_led, append_name, append_separator};
 use bd_value::{Kind, NoMemory};
 use std::alloc::Global;
 
@@ -33,46 +33,52 @@ impl WideTextBuffer {
         }
     }
 
-    /// The line of a document of all types, whose bytes have no fault: its text, Extended JSON v2, canonical form, without
+    /// The line of a document of all types, whose bytes have no fault: its text, Extended JSON v2 in this format, without
     /// white space, and a newline.
     ///
     /// `NoMemory` if the line does not fit and memory runs out.
-    pub fn line(&mut self, bytes: &[u8]) -> Result<&[u8], NoMemory>
+    pub fn line(&mut self, format: JsonFormat, bytes: &[u8]) -> Result<&[u8], NoMemory>
         requires { (base : ℕ) × (fault_under All base bytes.now ≡ None) }
-        ensures { IfOk result (λ line. IsLineOf bytes.now line.now) }
+        ensures { IfOk result (λ line. IsLineOf format bytes.now line.now) }
     {
-        let end = append_wide(bytes, &mut self.buffer, 0)?;
+        let end = append_wide(format, bytes, &mut self.buffer, 0)?;
         let end = append_few(b"\n", &mut self.buffer, end)?;
         Ok(&self.buffer[..end])
     }
 }
 
 /// Appends the text of a document of all types, whose bytes have no fault, after the first `end` bytes of a buffer, and returns
-/// where the text ends: Extended JSON v2, canonical form, without white space. There is no newline after it.
+/// where the text ends: Extended JSON v2 in this format, without white space. There is no newline after it.
 ///
 /// On `NoMemory` those `end` bytes are unchanged.
 #[inline(always)]
-pub fn append_wide(bytes: &[u8], buffer: &mut Vec<u8>, end: usize) -> End
+pub fn append_wide(format: JsonFormat, bytes: &[u8], buffer: &mut Vec<u8>, end: usize) -> End
     requires sound { (base : ℕ) × (fault_under All base bytes.now ≡ None) }
     requires buffer { end ≤ length buffer.old.items }
-    ensures text { IfOk result (λ to. (text : List ℕ) × IsTextOfBytes bytes.now text
+    ensures text { IfOk result (λ to. (text : List ℕ) × IsTextOfBytes format bytes.now text
         × (take to buffer.new.items ≡ take end buffer.old.items ++ text)) }
     ensures within { IfOk result (λ to. to ≤ length buffer.new.items) }
     ensures err { OnErr result (take end buffer.new.items ≡ take end buffer.old.items) }
 {
-    append_fields(bytes, 4, buffer, end)
+    append_fields(format, bytes, 4, buffer, end)
 }
 
 /// Appends the text of the document of the elements at an offset. On `NoMemory` the first `end` bytes are unchanged, and so in
 /// the functions below.
 #[cycle(wide)]
 #[inline(never)]
-fn append_fields(bytes: &[u8], start: usize, out: &mut Vec<u8>, end: usize) -> End
+fn append_fields(
+    format: JsonFormat,
+    bytes: &[u8],
+    start: usize,
+    out: &mut Vec<u8>,
+    end: usize,
+) -> End
     requires short { length bytes.now ≤ longest_document }
     requires elements { HasElements (drop start bytes.now) }
     requires buffer { end ≤ length out.old.items }
     ensures text { (e : HasElements (drop start bytes.now)) → IfOk result (λ to.
-        AppendsText (doc e.fields) out.old.items end to out.new.items) }
+        AppendsText format (doc e.fields) out.old.items end to out.new.items) }
     ensures err { OnErr result (take end out.new.items ≡ take end out.old.items) }
 {
     let mut at = append_few(b"{", out, end)?;
@@ -80,7 +86,7 @@ fn append_fields(bytes: &[u8], start: usize, out: &mut Vec<u8>, end: usize) -> E
     let mut next = start;
     while let Some(element) = element_at(bytes, next) {
         at = append_name(later, element.name, out, at)?;
-        at = append_value(element.typed, bytes, element.start, out, at)?;
+        at = append_value(format, element.typed, bytes, element.start, out, at)?;
         later = true;
         next = element.next;
     }
@@ -90,12 +96,18 @@ fn append_fields(bytes: &[u8], start: usize, out: &mut Vec<u8>, end: usize) -> E
 /// Appends the text of the array of the elements at an offset.
 #[cycle(wide)]
 #[inline(never)]
-fn append_items(bytes: &[u8], start: usize, out: &mut Vec<u8>, end: usize) -> End
+fn append_items(
+    format: JsonFormat,
+    bytes: &[u8],
+    start: usize,
+    out: &mut Vec<u8>,
+    end: usize,
+) -> End
     requires short { length bytes.now ≤ longest_document }
     requires elements { HasElements (drop start bytes.now) }
     requires buffer { end ≤ length out.old.items }
     ensures text { (e : HasElements (drop start bytes.now)) → IfOk result (λ to.
-        AppendsText (array (values_in e.fields)) out.old.items end to out.new.items) }
+        AppendsText format (array (values_in e.fields)) out.old.items end to out.new.items) }
     ensures err { OnErr result (take end out.new.items ≡ take end out.old.items) }
 {
     let mut at = append_few(b"[", out, end)?;
@@ -103,7 +115,7 @@ fn append_items(bytes: &[u8], start: usize, out: &mut Vec<u8>, end: usize) -> En
     let mut next = start;
     while let Some(element) = element_at(bytes, next) {
         at = append_separator(later, b',', out, at)?;
-        at = append_value(element.typed, bytes, element.start, out, at)?;
+        at = append_value(format, element.typed, bytes, element.start, out, at)?;
         later = true;
         next = element.next;
     }
@@ -114,6 +126,7 @@ fn append_items(bytes: &[u8], start: usize, out: &mut Vec<u8>, end: usize) -> En
 #[cycle(wide)]
 #[inline(always)]
 fn append_value(
+    format: JsonFormat,
     typed: ElementType,
     bytes: &[u8],
     start: usize,
@@ -125,51 +138,64 @@ fn append_value(
     requires value { (tree : Tree) × HasValue typed (drop start bytes.now) tree }
     requires buffer { end + VALUE ≤ length out.old.items }
     ensures text { (tree : Tree) → HasValue typed (drop start bytes.now) tree → IfOk result (λ to.
-        AppendsText tree out.old.items end to out.new.items) }
+        AppendsText format tree out.old.items end to out.new.items) }
     ensures err { OnErr result (take end out.new.items ≡ take end out.old.items) }
 {
     match typed {
-        ElementType::Double => append_double(bytes, start, out, end),
+        ElementType::Double => append_double(format, bytes, start, out, end),
         ElementType::Decimal128 => append_decimal128(bytes, start, out, end),
-        ElementType::Kept(kind) => append_kept(kind, bytes, start, out, end),
+        ElementType::Kept(kind) => append_kept(format, kind, bytes, start, out, end),
     }
 }
 
 /// The same for a kind of value.
 #[cycle(wide)]
 #[inline(always)]
-fn append_kept(kind: Kind, bytes: &[u8], start: usize, out: &mut Vec<u8>, end: usize) -> End
+fn append_kept(
+    format: JsonFormat,
+    kind: Kind,
+    bytes: &[u8],
+    start: usize,
+    out: &mut Vec<u8>,
+    end: usize,
+) -> End
     requires short { length bytes.now ≤ longest_document }
     requires inside { start ≤ length bytes.now }
     requires value { (tree : Tree) × HasValue (Kept kind) (drop start bytes.now) tree }
     requires buffer { end + VALUE ≤ length out.old.items }
     ensures text { (tree : Tree) → HasValue (Kept kind) (drop start bytes.now) tree →
-        IfOk result (λ to. AppendsText tree out.old.items end to out.new.items) }
+        IfOk result (λ to. AppendsText format tree out.old.items end to out.new.items) }
     ensures err { OnErr result (take end out.new.items ≡ take end out.old.items) }
 {
     match kind {
-        Kind::Doc => append_fields(bytes, start + 4, out, end),
-        Kind::Array => append_items(bytes, start + 4, out, end),
-        Kind::CodeScope => append_scope(bytes, start, out, end),
-        _ => append_node(RawValue::there(kind, bytes, start), out, end),
+        Kind::Doc => append_fields(format, bytes, start + 4, out, end),
+        Kind::Array => append_items(format, bytes, start + 4, out, end),
+        Kind::CodeScope => append_scope(format, bytes, start, out, end),
+        _ => append_kind(format, RawValue::there(kind, bytes, start), out, end),
     }
 }
 
 /// Appends the text of the code with scope at an offset.
 #[cycle(wide)]
 #[inline(never)]
-fn append_scope(bytes: &[u8], start: usize, out: &mut Vec<u8>, end: usize) -> End
+fn append_scope(
+    format: JsonFormat,
+    bytes: &[u8],
+    start: usize,
+    out: &mut Vec<u8>,
+    end: usize,
+) -> End
     requires short { length bytes.now ≤ longest_document }
     requires value { (tree : Tree) × HasValue (Kept kinds.CodeScope) (drop start bytes.now) tree }
     requires buffer { end ≤ length out.old.items }
     ensures text { (tree : Tree) → HasValue (Kept kinds.CodeScope) (drop start bytes.now) tree →
-        IfOk result (λ to. AppendsText tree out.old.items end to out.new.items) }
+        IfOk result (λ to. AppendsText format tree out.old.items end to out.new.items) }
     ensures err { OnErr result (take end out.new.items ≡ take end out.old.items) }
 {
     let (_, here) = bytes.split_at(start + 4);
     let code = parts::text(here);
     let at = append_led(b"{\"$code\":", code, out, end)?;
     let at = append_few(b",\"$scope\":", out, at)?;
-    let at = append_fields(bytes, start + 13 + code.len(), out, at)?;
+    let at = append_fields(format, bytes, start + 13 + code.len(), out, at)?;
     append_few(b"}", out, at)
 }

@@ -1,10 +1,13 @@
 //! Doubles and decimal128, each as its row of the conversion table of Extended JSON v2.
 
-ghost use Rattle.std.specs.Prelude.{◌≡◌, ◌≤◌, ◌+◌, ◌++◌, ℕ, List, length, take, drop, IfOk, OnErr};
+ghost use Rattle.std.specs.Prelude.{◌≡◌, ◌≤◌, ◌+◌, ◌++◌, ℕ, List, length, take, drop, true, false, IfOk, OnErr};
+ghost use Rattle.std.specs.Float.{Ieee.of_bits, binary64, float_is_finite};
 ghost use Rattle.bd_bson_view.specs.Sizes.{long_of};
-ghost use Rattle.bd_bson_view.specs.Spelling.{as_decimal128, as_double};
-ghost use Rattle.bd_wide_dump.specs.inside.Begins.{AppendsNumber};
+ghost use Rattle.bd_bson_view.specs.Spelling.{as_double};
+ghost use Rattle.bd_wide_dump.specs.WideText.{IsDoubleIn, IsNumberText, decimal_text, is_bare};
+ghost use Rattle.bd_wide_dump.specs.inside.Begins.{AppendsBy};
 
+use crate::format::JsonFormat;
 use bd_extjson_text::{End, append_few};
 use bd_wide_text::{write_decimal128, write_double};
 
@@ -19,19 +22,69 @@ fn long(bytes: &[u8]) -> u64
     ])
 }
 
+/// Whether a double is written without a wrapper.
+fn is_bare(format: JsonFormat, bits: u64) -> bool
+    ensures { result ≡ is_bare format (of_bits binary64 bits) }
+{
+    match format {
+        JsonFormat::Canonical => false,
+        JsonFormat::Relaxed => is_finite(bits),
+    }
+}
+
+/// Whether the double with these bits is neither infinite nor NaN: the eleven bits of its exponent are not all set.
+fn is_finite(bits: u64) -> bool
+    ensures { result ≡ float_is_finite (of_bits binary64 bits) }
+{
+    bits % 0x8000_0000_0000_0000 / 0x10_0000_0000_0000 != 0x7FF
+}
+
 /// Appends the double at an offset of the bytes.
 #[inline(never)]
-pub(crate) fn append_double(bytes: &[u8], start: usize, out: &mut Vec<u8>, end: usize) -> End
+pub(crate) fn append_double(
+    format: JsonFormat,
+    bytes: &[u8],
+    start: usize,
+    out: &mut Vec<u8>,
+    end: usize,
+) -> End
     requires value { 8 ≤ length (drop start bytes.now) }
     requires buffer { end ≤ length out.old.items }
-    ensures text { IfOk result (λ e.
-        AppendsNumber as_double (drop start bytes.now) out.old.items end e out.new.items) }
+    ensures text { IfOk result (λ e. AppendsBy
+        (λ text. IsNumberText format as_double (drop start bytes.now) text)
+        out.old.items end e out.new.items) }
     ensures err { OnErr result (take end out.new.items ≡ take end out.old.items) }
 {
     let (_, value) = bytes.split_at(start);
+    let bits = long(value);
+    if is_bare(format, bits) {
+        return append_digits(bits, out, end);
+    }
+    append_wrapped(bits, out, end)
+}
+
+/// Appends a double without a wrapper.
+fn append_digits(bits: u64, out: &mut Vec<u8>, end: usize) -> End
+    requires { end ≤ length out.old.items }
+    ensures text { IfOk result (λ e.
+        AppendsBy (λ text. IsDoubleIn true bits text) out.old.items end e out.new.items) }
+    ensures err { OnErr result (take end out.new.items ≡ take end out.old.items) }
+{
+    out.truncate(end);
+    write_double(bits, out)?;
+    Ok(out.len())
+}
+
+/// Appends a double in its wrapper.
+fn append_wrapped(bits: u64, out: &mut Vec<u8>, end: usize) -> End
+    requires { end ≤ length out.old.items }
+    ensures text { IfOk result (λ e.
+        AppendsBy (λ text. IsDoubleIn false bits text) out.old.items end e out.new.items) }
+    ensures err { OnErr result (take end out.new.items ≡ take end out.old.items) }
+{
     let at = append_few(b"{\"$numberDouble\":\"", out, end)?;
     out.truncate(at);
-    write_double(long(value), out)?;
+    write_double(bits, out)?;
     let at = out.len();
     append_few(b"\"}", out, at)
 }
@@ -41,8 +94,9 @@ pub(crate) fn append_double(bytes: &[u8], start: usize, out: &mut Vec<u8>, end: 
 pub(crate) fn append_decimal128(bytes: &[u8], start: usize, out: &mut Vec<u8>, end: usize) -> End
     requires value { 16 ≤ length (drop start bytes.now) }
     requires buffer { end ≤ length out.old.items }
-    ensures text { IfOk result (λ e.
-        AppendsNumber as_decimal128 (drop start bytes.now) out.old.items end e out.new.items) }
+    ensures text { IfOk result (λ e. AppendsBy
+        (λ text. text ≡ decimal_text (drop start bytes.now))
+        out.old.items end e out.new.items) }
     ensures err { OnErr result (take end out.new.items ≡ take end out.old.items) }
 {
     let (_, value) = bytes.split_at(start);

@@ -3,18 +3,38 @@
 ghost use Rattle.std.specs.Prelude.{◌≤◌, length};
 
 use bd_bson_check::{Profile, check_bytes};
-use bd_wide_dump::WideTextBuffer;
+use bd_wide_dump::{JsonFormat, WideTextBuffer};
 use std::alloc::Global;
 use std::process::Abort;
 use std::test::Fail;
 
-/// The document has this line.
+/// The document has this canonical line.
 fn line_is(rt: &impl Abort, alloc: Global, bytes: &[u8], expected: &[u8]) -> Result<(), Fail>
+    requires { length bytes.now ≤ 10000 }
+{
+    line_in(rt, alloc, JsonFormat::Canonical, bytes, expected)
+}
+
+/// The document has this line in relaxed form.
+fn relaxed_is(rt: &impl Abort, alloc: Global, bytes: &[u8], expected: &[u8]) -> Result<(), Fail>
+    requires { length bytes.now ≤ 10000 }
+{
+    line_in(rt, alloc, JsonFormat::Relaxed, bytes, expected)
+}
+
+/// The document has this line in that format.
+fn line_in(
+    rt: &impl Abort,
+    alloc: Global,
+    format: JsonFormat,
+    bytes: &[u8],
+    expected: &[u8],
+) -> Result<(), Fail>
     requires { length bytes.now ≤ 10000 }
 {
     check_bytes(alloc, Profile::All, bytes, 0, 0)?;
     let mut lines = WideTextBuffer::new(alloc);
-    let line = lines.line(bytes)?;
+    let line = lines.line(format, bytes)?;
     assert!(rt; line == expected);
     Ok(())
 }
@@ -114,7 +134,55 @@ fn one_line_after_the_other(rt: HostRuntime) -> Result<(), Fail> {
     check_bytes(alloc, Profile::All, first, 0, 0)?;
     check_bytes(alloc, Profile::All, second, 0, 0)?;
     let mut lines = WideTextBuffer::new(alloc);
-    lines.line(first)?;
-    assert!(rt; lines.line(second)? == b"{\"e\":null}\n".as_slice());
+    lines.line(JsonFormat::Canonical, first)?;
+    assert!(rt; lines.line(JsonFormat::Canonical, second)? == b"{\"e\":null}\n".as_slice());
     Ok(())
+}
+
+#[test]
+fn relaxed_numbers(rt: HostRuntime) -> Result<(), Fail> {
+    let bytes =
+        b"C\0\0\0\x10i\0\0\0\0\x80\x12l\0\xff\xff\xff\xff\xff\xff\xff\x7f\x01d\0\0\0\0\0\0\0\xf0\x3f\x01e\0\x2a\x1b\xf5\xf4\x10\x22\xb1C\x01n\0\0\0\0\0\0\0\xf8\x7f\x01f\0\0\0\0\0\0\0\xf0\xff\0";
+    relaxed_is(
+        &rt,
+        rt.alloc(),
+        bytes,
+        b"{\"i\":-2147483648,\"l\":9223372036854775807,\"d\":1.0,\"e\":1.2345678921232E+18,\"n\":{\"$numberDouble\":\"NaN\"},\"f\":{\"$numberDouble\":\"-Infinity\"}}\n",
+    )
+}
+
+#[test]
+fn relaxed_dates(rt: HostRuntime) -> Result<(), Fail> {
+    let bytes =
+        b"G\0\0\0\x09a\0\0\0\0\0\0\0\0\0\x09b\0\xc5\xd8\xd6\xcc\x3b\x01\0\0\x09c\0\xd1\xd6\xd6\xcc\x3b\x01\0\0\x09d\0\xc4\xd8\xd6\xcc\x3b\x01\0\0\x09e\0\x02\xd7\xd6\xcc\x3b\x01\0\0\x09f\0\0\xe0\xa6\x9a\xdd\0\0\0\0";
+    relaxed_is(
+        &rt,
+        rt.alloc(),
+        bytes,
+        b"{\"a\":{\"$date\":\"1970-01-01T00:00:00Z\"},\"b\":{\"$date\":\"2012-12-24T12:15:30.501Z\"},\"c\":{\"$date\":\"2012-12-24T12:15:30.001Z\"},\"d\":{\"$date\":\"2012-12-24T12:15:30.5Z\"},\"e\":{\"$date\":\"2012-12-24T12:15:30.05Z\"},\"f\":{\"$date\":\"2000-02-29T00:00:00Z\"}}\n",
+    )
+}
+
+#[test]
+fn relaxed_dates_of_other_years(rt: HostRuntime) -> Result<(), Fail> {
+    let bytes =
+        b"1\0\0\0\x09a\0\xc3\x3c\xe7\xb9\xbd\xff\xff\xff\x09b\0\xff\xff\xff\xff\xff\xff\xff\xff\x09c\0\xff\xdb\x1f\xd2w\xe6\0\0\x09d\0\0\xdc\x1f\xd2w\xe6\0\0\0";
+    relaxed_is(
+        &rt,
+        rt.alloc(),
+        bytes,
+        b"{\"a\":{\"$date\":{\"$numberLong\":\"-284643869501\"}},\"b\":{\"$date\":{\"$numberLong\":\"-1\"}},\"c\":{\"$date\":\"9999-12-31T23:59:59.999Z\"},\"d\":{\"$date\":{\"$numberLong\":\"253402300800000\"}}}\n",
+    )
+}
+
+#[test]
+fn relaxed_at_each_level(rt: HostRuntime) -> Result<(), Fail> {
+    let bytes =
+        b"c\0\0\0\x04a\0\x1b\0\0\0\x100\0\x01\0\0\0\x031\0\x0c\0\0\0\x10x\0\x07\0\0\0\0\0\x0fc\0\x16\0\0\0\x02\0\0\0f\0\x0c\0\0\0\x10x\0\x07\0\0\0\0\x13e\0\x0f\0\0\0\0\0\0\0\0\0\0\0\0\0\x3e0\x02s\0\x02\0\0\01\0\x11m\0\x02\0\0\0\x01\0\0\0\0";
+    relaxed_is(
+        &rt,
+        rt.alloc(),
+        bytes,
+        b"{\"a\":[1,{\"x\":7}],\"c\":{\"$code\":\"f\",\"$scope\":{\"x\":7}},\"e\":{\"$numberDecimal\":\"1.5\"},\"s\":\"1\",\"m\":{\"$timestamp\":{\"t\":1,\"i\":2}}}\n",
+    )
 }

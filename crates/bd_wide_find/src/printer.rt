@@ -8,7 +8,7 @@ use bd_bson_dump::Dump;
 use bd_cli_print::PlacePrinter;
 use bd_extjson_text::End;
 use bd_wide_copy::WideDump;
-use bd_wide_dump::append_wide;
+use bd_wide_dump::{JsonFormat, append_wide};
 
 /// Prints the documents of a dump of all types at the places of a copy of it, in which each document has the same number.
 #[derive(Clone, Copy)]
@@ -25,6 +25,11 @@ impl PlacePrinter for WidePrinter<'_> {
 
     #[inline(always)]
     fn append(&self, _copy: &Dump, place: u32, buffer: &mut Vec<u8>, end: usize) -> End {
-        append_wide(self.dump.document(place), buffer, end)
+        append_wide(
+            JsonFormat::Canonical,
+            self.dump.document(place),
+            buffer,
+            end,
+        )
     }
 }

@@ -6,7 +6,7 @@ use bd_cli_scan::Status;
 use bd_io_device::{MemoryInput, MemoryOutput};
 use bd_wide::{read_order, write_ordered};
 use bd_wide_cli::{Command, report, run, version};
-use bd_wide_dump::WideTextBuffer;
+use bd_wide_dump::{JsonFormat, WideTextBuffer};
 use bd_wide_number::{Number, code_of, whole_of};
 use bd_wide_text::write_double;
 use std::test::Fail;
@@ -48,7 +48,7 @@ fn all_types(rt: HostRuntime) -> Result<(), Fail> {
     let bytes = b"\x10\0\0\0\x01d\0\0\0\0\0\0\0\xf8\x3f\0";
     check_bytes(alloc, Profile::All, bytes, 0, 0)?;
     let mut lines = WideTextBuffer::new(alloc);
-    let line = lines.line(bytes)?;
+    let line = lines.line(JsonFormat::Canonical, bytes)?;
     assert!(rt; line == b"{\"d\":{\"$numberDouble\":\"1.5\"}}\n".as_slice());
     Ok(())
 }
@@ -60,7 +60,8 @@ fn dumped(rt: HostRuntime) {
     let mut out = MemoryOutput::new(&mut buffer, 100, None);
     let mut reported = [0; 100];
     let mut err = MemoryOutput::new(&mut reported, 100, None);
-    let status = run(rt.alloc(), &Command::Dump, &mut input, &mut out, &mut err);
+    let command = Command::Dump(JsonFormat::Canonical);
+    let status = run(rt.alloc(), &command, &mut input, &mut out, &mut err);
     assert!(rt; status == Status::Done);
     assert!(rt; out.bytes() == b"{}\n".as_slice());
 }
@@ -128,7 +129,7 @@ fn refused_number(rt: HostRuntime) -> Result<(), Fail> {
 /// The output for `--help` and for `--version`.
 #[test]
 fn reports(rt: HostRuntime) {
-    let usage = "usage: bsonwide dump FILE
+    let usage = "usage: bsonwide dump FILE [--jsonFormat FORMAT]
        bsonwide check FILE
        bsonwide pack FILE
        bsonwide find FILE [--query Q] [--sort S] [--skip N] [--limit N] [--batch N] [--index PATH] [--after TOKEN]

@@ -6,7 +6,7 @@ use bd_cli_main::Program;
 use bd_cli_scan::Status;
 use bd_io_device::{Input, Output};
 use bd_wide::read_order;
-use bd_wide_cli::{Command, PROGRAM, block_size, version};
+use bd_wide_cli::{Command, PROGRAM, block_size, read_format, version};
 use std::alloc::Global;
 use std::process::ExitCode;
 
@@ -27,7 +27,9 @@ impl Program for Bsonwide {
 
     fn parse(&self, alloc: Global, words: &[String]) -> Result<Self::Command, WordsFault> {
         match parse_wide_words(alloc, words)? {
-            WideOrder::Dump { file } => Ok((Command::Dump, file)),
+            WideOrder::Dump { file, format } => {
+                Ok((Command::Dump(read_format(format.as_deref())?), file))
+            }
             WideOrder::Check { file } => Ok((Command::Check, file)),
             WideOrder::Pack { file } => Ok((Command::Pack, file)),
             WideOrder::Find { file, options } => Ok((Command::Find(options), file)),

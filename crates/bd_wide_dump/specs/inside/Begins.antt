@@ -9,8 +9,8 @@ use Rattle.bd_bson_view.specs.declared.raw_parts.ElementType.{ElementType}
 use Rattle.bd_bson_view.specs.declared.raw_parts.ElementType.TheVariants.{Kept, Double, Decimal128}
 use Rattle.bd_bson_view.specs.Spelling.{NumberKind, number_type, number_size, framed, scoped, IsText, IsScalar, AreFieldsBy, valued}
 use Rattle.bd_bson_view.specs.Sizes.{size_of, HasBytesOf}
-use Rattle.bd_extjson_text.specs.Text.{scalar_text}
-use Rattle.bd_wide_dump.specs.{Raw.raw, WideText.IsNumberText, WideText.IsScalarText, WideText.IsTextOf}
+use Rattle.bd_wide_dump.specs.declared.format.JsonFormat.{JsonFormat}
+use Rattle.bd_wide_dump.specs.{Raw.raw, WideText.IsKindText, WideText.IsScalarText, WideText.IsTextOf}
 
 -- the values of fields, in order
 abbrev pub values_in : Fields → Items
@@ -47,7 +47,7 @@ pub record IsScalarOf (type : ElementType) (content : List ℕ) (tree : Tree) : 
   pub typed : type ≡ Kept (scalar_kind scalar)
   pub other : is_whole (scalar_kind scalar) ≡ false
   pub spells : IsScalar scalar content
-  pub text_is : IsScalarText scalar (scalar_text scalar)
+  pub text_is : (format : JsonFormat) (text : List ℕ) → IsKindText format scalar text → IsScalarText format scalar text
 
 -- The bytes are those of a document.
 pub record IsDocumentOf (type : ElementType) (content : List ℕ) (tree : Tree) : Type 0 where
@@ -117,16 +117,13 @@ abbrev pub HasSize : ElementType → List ℕ → Type 0
 HasSize (Kept kind) bytes = HasBytesOf kind bytes
 HasSize _ bytes = Unit {0}
 
--- The text of the value follows the first `end` bytes of `old`, up to e.
-pub record AppendsText (tree : Tree) (old : List ℕ) (end e : ℕ) (new : List ℕ) : Type 0 where
+-- A text with this property follows the first `end` bytes of `old`, up to e.
+pub record AppendsBy (Is : List ℕ → Type 0) (old : List ℕ) (end e : ℕ) (new : List ℕ) : Type 0 where
   pub text : List ℕ
-  pub is : IsTextOf tree text
+  pub is : Is text
   pub written : take e new ≡ take end old ++ text
   pub inside : e ≤ length new
 
--- The text of the number of this kind at the start of the bytes follows the first `end` bytes of `old`, up to e.
-pub record AppendsNumber (kind : NumberKind) (bytes old : List ℕ) (end e : ℕ) (new : List ℕ) : Type 0 where
-  pub text : List ℕ
-  pub is : IsNumberText kind bytes text
-  pub written : take e new ≡ take end old ++ text
-  pub inside : e ≤ length new
+-- The text of the value follows the first `end` bytes of `old`, up to e.
+abbrev pub AppendsText : JsonFormat → Tree → List ℕ → ℕ → ℕ → List ℕ → Type 0
+AppendsText format tree old end e new = AppendsBy (λ text. IsTextOf format tree text) old end e new

@@ -1,4 +1,4 @@
-use Rattle.std.proofs.Common.{◌+◌, ◌∷◌, [], drop, length, IfOk, refl, sym, ap, subst, ◌∙◌, arith}
+use Rattle.std.proofs.Common.{◌+◌, ◌∷◌, [], drop, length, IfOk, sym, ap, subst, ◌∙◌, arith}
 use Rattle.bd_value.specs.Tree.{Tree}
 use Rattle.bd_value.specs.declared.node.Kind.{Kind}
 use Rattle.bd_bson_view.specs.declared.raw_parts.ElementType.TheVariants.{Kept}
@@ -20,7 +20,7 @@ append_fields-loop-element-init t c =
     let put = c.in_ok-at.ensures.text in
     let old = c.args.out.now.items in
     record {
-      goes = l.fields_go c.args.bytes.now c.args.start _ _ put.0;
+      goes = l.fields_go c.args.format c.args.bytes.now c.args.start _ _ put.0;
       unchanged = prefix c.args.end c.in_ok-at.at old (123 ∷ []) c.append_few.new.out.items c.requires.buffer put.0;
       inside = put.1;
       after = rises c.args.end c.in_ok-at.at old (123 ∷ []) c.append_few.new.out.items c.requires.buffer put.0;
@@ -63,7 +63,7 @@ append_fields-loop-element-preserved t c =
     let on = goes_on c.args.end i.at c.args.out.now.items i.out.items i.invariant.after i.invariant.inside i.invariant.unchanged c.in_ok-at-2.at c.in_ok-at-3.at
     c.append_name.new.out.items c.append_value.new.out.items _ w.text c.in_ok-at-2.ensures.text.0 w.written in
     record {
-      goes = l.fields_go_on c.args.bytes.now c.args.start i.next c.in-Some.element.start c.in-Some.element.next c.in-Some.element.typed c.in-Some.element.name.now i.later _ _
+      goes = l.fields_go_on c.args.format c.args.bytes.now c.args.start i.next c.in-Some.element.start c.in-Some.element.next c.in-Some.element.typed c.in-Some.element.name.now i.later _ _
           c.append_name.new.out.items c.append_value.new.out.items c.in_ok-at-2.at c.in_ok-at-3.at c.in-Some.ensures.some c.in_ok-at-3.ensures.text i.invariant.goes c.in_ok-at-2.ensures.text.0;
       unchanged = on.0;
       inside = w.inside;
@@ -74,7 +74,7 @@ append_fields-loop-element-preserved t c =
 pub append_fields-returns-clause-text : goal.append_fields-returns-clause-text
 append_fields-returns-clause-text t c =
     let i = c.loop-element in
-    l.fields_done c.args.bytes.now c.args.start i.next i.later c.args.out.now.items i.out.items c.append_few-2.new.out.items c.args.end i.at c.append_few-2.result
+    l.fields_done c.args.format c.args.bytes.now c.args.start i.next i.later c.args.out.now.items i.out.items c.append_few-2.new.out.items c.args.end i.at c.append_few-2.result
     c.in_default.ensures.none i.invariant.goes c.append_few-2.ensures.text
 
 pub append_fields-returns-clause-err : goal.append_fields-returns-clause-err
@@ -89,7 +89,7 @@ append_items-loop-element-init t c =
     let put = c.in_ok-at.ensures.text in
     let old = c.args.out.now.items in
     record {
-      goes = l.items_go c.args.bytes.now c.args.start _ _ put.0;
+      goes = l.items_go c.args.format c.args.bytes.now c.args.start _ _ put.0;
       unchanged = prefix c.args.end c.in_ok-at.at old (91 ∷ []) c.append_few.new.out.items c.requires.buffer put.0;
       inside = put.1;
       after = rises c.args.end c.in_ok-at.at old (91 ∷ []) c.append_few.new.out.items c.requires.buffer put.0;
@@ -132,7 +132,7 @@ append_items-loop-element-preserved t c =
     let on = goes_on c.args.end i.at c.args.out.now.items i.out.items i.invariant.after i.invariant.inside i.invariant.unchanged c.in_ok-at-2.at c.in_ok-at-3.at
     c.append_separator.new.out.items c.append_value.new.out.items _ w.text c.in_ok-at-2.ensures.text.0 w.written in
     record {
-      goes = l.items_go_on c.args.bytes.now c.args.start i.next c.in-Some.element.start c.in-Some.element.next c.in-Some.element.typed c.in-Some.element.name.now i.later _ _
+      goes = l.items_go_on c.args.format c.args.bytes.now c.args.start i.next c.in-Some.element.start c.in-Some.element.next c.in-Some.element.typed c.in-Some.element.name.now i.later _ _
           c.append_separator.new.out.items c.append_value.new.out.items c.in_ok-at-2.at c.in_ok-at-3.at c.in-Some.ensures.some c.in_ok-at-3.ensures.text i.invariant.goes c.in_ok-at-2.ensures.text.0;
       unchanged = on.0;
       inside = w.inside;
@@ -143,7 +143,7 @@ append_items-loop-element-preserved t c =
 pub append_items-returns-clause-text : goal.append_items-returns-clause-text
 append_items-returns-clause-text t c =
     let i = c.loop-element in
-    l.items_done c.args.bytes.now c.args.start i.next i.later c.args.out.now.items i.out.items c.append_few-2.new.out.items c.args.end i.at c.append_few-2.result
+    l.items_done c.args.format c.args.bytes.now c.args.start i.next i.later c.args.out.now.items i.out.items c.append_few-2.new.out.items c.args.end i.at c.append_few-2.result
     c.in_default.ensures.none i.invariant.goes c.append_few-2.ensures.text
 
 pub append_items-returns-clause-err : goal.append_items-returns-clause-err
@@ -155,12 +155,12 @@ append_items-returns-clause-err t c =
 
 pub append_value-returns-in-Double-clause-text : goal.append_value-returns-in-Double-clause-text
 append_value-returns-in-Double-clause-text t c = λ tree h.
-    v.wide_appended as_double c.args.typed (drop c.args.start c.args.bytes.now) c.args.out.now.items c.args.end c.append_double.new.out.items tree c.append_double.result
+    v.wide_appended c.args.format as_double c.args.typed (drop c.args.start c.args.bytes.now) c.args.out.now.items c.args.end c.append_double.new.out.items tree c.append_double.result
     v.double_is_wide c.in-Double.is (IsBytes-drop c.args.start c.args.bytes.now (λ i. (c.type_inv.bytes i).fits)) h c.append_double.ensures.text
 
 pub append_value-returns-in-Decimal128-clause-text : goal.append_value-returns-in-Decimal128-clause-text
 append_value-returns-in-Decimal128-clause-text t c = λ tree h.
-    v.wide_appended as_decimal128 c.args.typed (drop c.args.start c.args.bytes.now) c.args.out.now.items c.args.end c.append_decimal128.new.out.items tree c.append_decimal128.result
+    v.wide_appended c.args.format as_decimal128 c.args.typed (drop c.args.start c.args.bytes.now) c.args.out.now.items c.args.end c.append_decimal128.new.out.items tree c.append_decimal128.result
     v.decimal128_is_wide c.in-Decimal128.is (IsBytes-drop c.args.start c.args.bytes.now (λ i. (c.type_inv.bytes i).fits)) h c.append_decimal128.ensures.text
 
 pub append_kept-append_fields-requires : goal.append_kept-append_fields-requires
@@ -191,25 +191,30 @@ pub append_kept-returns-in-Doc-clause-text : goal.append_kept-returns-in-Doc-cla
 append_kept-returns-in-Doc-clause-text t c = λ tree h.
     let P : Kind → Type 0 = λ k. HasValue (Kept k) (drop c.args.start c.args.bytes.now) tree in
     let d = v.document_here c.args.bytes.now c.args.start tree (subst P c.in-Doc.is h) in
-    let Q : Tree → Type 0 = λ u. IfOk c.append_fields.result (λ to. AppendsText u c.args.out.now.items c.args.end to c.append_fields.new.out.items) in
+    let Q : Tree → Type 0 = λ u. IfOk c.append_fields.result (λ to. AppendsText c.args.format u c.args.out.now.items c.args.end to c.append_fields.new.out.items) in
     subst Q (sym d.1) (c.append_fields.ensures.text d.0)
 
 pub append_kept-returns-in-Array-clause-text : goal.append_kept-returns-in-Array-clause-text
 append_kept-returns-in-Array-clause-text t c = λ tree h.
     let P : Kind → Type 0 = λ k. HasValue (Kept k) (drop c.args.start c.args.bytes.now) tree in
     let d = v.array_here c.args.bytes.now c.args.start tree (subst P c.in-Array.is h) in
-    let Q : Tree → Type 0 = λ u. IfOk c.append_items.result (λ to. AppendsText u c.args.out.now.items c.args.end to c.append_items.new.out.items) in
+    let Q : Tree → Type 0 = λ u. IfOk c.append_items.result (λ to. AppendsText c.args.format u c.args.out.now.items c.args.end to c.append_items.new.out.items) in
     subst Q (sym d.1) (c.append_items.ensures.text d.0)
+
+pub append_kept-append_kind-requires : goal.append_kept-append_kind-requires
+append_kept-append_kind-requires t c =
+    let fits = IsBytes-drop c.args.start c.args.bytes.now (λ i. (c.type_inv.bytes i).fits) in
+    let here = drop c.args.start c.args.bytes.now in
+    record {
+      scalar = (_, v.plain_viewed c.args.kind here c.in_default.not-Doc c.in_default.not-Array c.in_default.not-CodeScope fits (value_tree c.there.result) c.there.ensures.meaning c.requires.value.0 c.requires.value.1);
+      buffer = c.requires.buffer;
+    }
 
 pub append_kept-returns-in_default-clause-text : goal.append_kept-returns-in_default-clause-text
 append_kept-returns-in_default-clause-text t c = λ tree h.
     v.plain_appended c.args.kind (drop c.args.start c.args.bytes.now) c.in_default.not-Doc c.in_default.not-Array c.in_default.not-CodeScope
-    (IsBytes-drop c.args.start c.args.bytes.now (λ i. (c.type_inv.bytes i).fits)) (value_tree c.there.result) c.args.out.now.items c.args.end c.append_node.new.out.items c.append_node.result
-    c.there.ensures.meaning c.append_node.ensures tree h
-
-pub append_kept-returns-in_default-clause-err : goal.append_kept-returns-in_default-clause-err
-append_kept-returns-in_default-clause-err t c =
-    l.kept c.args.end c.args.end c.args.out.now.items c.args.out.now.items c.append_node.new.out.items _ c.append_node.result (omega arith) refl c.append_node.ensures
+    (IsBytes-drop c.args.start c.args.bytes.now (λ i. (c.type_inv.bytes i).fits)) c.args.format (value_tree c.there.result) c.args.out.now.items c.args.end c.append_kind.new.out.items c.append_kind.result
+    c.there.ensures.meaning c.append_kind.ensures.text tree h
 
 -- ---- code with scope
 
@@ -252,7 +257,7 @@ append_scope-returns-clause-text t c = λ tree x.
     let h = v.code_here c.args.bytes.now c.args.start tree x in
     let is = c.text-code.ensures.text ∙ ap text_of c.split_at.ensures.back ∙ h.text_is in
     let e = v.code_as c.args.bytes.now c.args.start tree h c.text-code.result.now is in
-    l.scope_done c.text-code.result.now tree e.0.fields c.args.out.now.items c.append_led.new.out.items c.append_few.new.out.items c.append_fields.new.out.items
+    l.scope_done c.args.format c.text-code.result.now tree e.0.fields c.args.out.now.items c.append_led.new.out.items c.append_few.new.out.items c.append_fields.new.out.items
     c.append_few-2.new.out.items c.args.end c.in_ok-at.at c.in_ok-at-2.at c.in_ok-at-3.at c.append_few-2.result e.1 c.in_ok-at.ensures.0 c.in_ok-at-2.ensures.text.0
     (c.in_ok-at-3.ensures.text e.0) c.append_few-2.ensures.text
 

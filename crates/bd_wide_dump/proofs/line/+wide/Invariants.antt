@@ -20,7 +20,7 @@ decreases-append_items l = 4 * (length l.bytes.now - l.start) + 3
 -- what is written continues with the elements that remain
 abbrev pub invariant-append_fields-loop-element : goal.invariant-append_fields-loop-element
 invariant-append_fields-loop-element l = record {
-  goes : FieldsGo l.bytes l.start l.next l.later (take l.end l.fn.out.items) (take l.at l.out.items);
+  goes : FieldsGo l.format l.bytes l.start l.next l.later (take l.end l.fn.out.items) (take l.at l.out.items);
   unchanged : take l.end l.out.items ≡ take l.end l.fn.out.items;
   inside : l.at ≤ length l.out.items;
   after : l.end ≤ l.at;
@@ -32,7 +32,7 @@ decreases-append_fields-loop-element l = length l.bytes - l.next
 
 abbrev pub invariant-append_items-loop-element : goal.invariant-append_items-loop-element
 invariant-append_items-loop-element l = record {
-  goes : ItemsGo l.bytes l.start l.next l.later (take l.end l.fn.out.items) (take l.at l.out.items);
+  goes : ItemsGo l.format l.bytes l.start l.next l.later (take l.end l.fn.out.items) (take l.at l.out.items);
   unchanged : take l.end l.out.items ≡ take l.end l.fn.out.items;
   inside : l.at ≤ length l.out.items;
   after : l.end ≤ l.at;

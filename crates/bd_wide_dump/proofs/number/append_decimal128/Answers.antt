@@ -1,8 +1,8 @@
 use Rattle.std.proofs.Common.{rules, ◌≡◌, ◌++◌, ℕ, List, length, drop, ap, ap₂, ◌∙◌}
 use Rattle.std.specs.Prelude.{codes}
 use Rattle.bd_bson_view.specs.Sizes.{long_of}
-use Rattle.bd_bson_view.specs.Spelling.{as_decimal128}
 use Rattle.bd_wide_text.specs.Decimal128.{decimal128_text}
+use Rattle.bd_wide_dump.specs.WideText.{decimal_text}
 use Rattle.bd_wide_dump.proofs.LineLemmas.{number_in_part, number_done, number_kept, on_err}
 use Rattle.bd_wide_dump.proofs.number.append_decimal128.Goals as goal
 
@@ -17,7 +17,7 @@ returns-clause-text c =
     let low = c.long.ensures ∙ ap long_of here in
     let high = c.long-2.ensures ∙ ap long_of (c.split_at-2.ensures.back ∙ ap (drop 8) here) in
     let all : c.len-at.result ≡ length c.write_decimal128.new.out.items = search rules in
-    number_done as_decimal128 (drop c.args.start c.args.bytes.now) c.args.out.now.items c.write_decimal128.new.out.items c.append_few-2.new.out.items
+    number_done (λ text. text ≡ decimal_text (drop c.args.start c.args.bytes.now)) c.args.out.now.items c.write_decimal128.new.out.items c.append_few-2.new.out.items
     (codes "{\"$numberDecimal\":\"") (decimal128_text c.long.result c.long-2.result) (codes "\"}") c.args.end c.len-at.result c.append_few-2.result
     (c.in_ok-write_decimal128.ensures.ok ∙ ap (λ (x : List ℕ). x ++ decimal128_text c.long.result c.long-2.result) (c.truncate.ensures.items ∙ c.in_ok-at.ensures.text.0))
     all (ap₂ (λ (l h : ℕ). codes "{\"$numberDecimal\":\"" ++ (decimal128_text l h ++ codes "\"}")) low high) c.append_few-2.ensures.text
