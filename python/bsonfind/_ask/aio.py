@@ -117,19 +117,6 @@ class AsyncSession:
         decode: Decode[Any] = "plain",
     ) -> AsyncCursor[Any]:
         """A cursor over an answer, or over what follows a token, for `async for`. It is opened by its first document."""
-        return self._cursor(filter, sort, skip, limit, batch_size, hint, after, decode)
-
-    def _cursor(
-        self,
-        filter: Filter | None,
-        sort: Sort | None,
-        skip: int,
-        limit: int,
-        batch_size: int,
-        hint: Hint | None,
-        after: str | None,
-        decode: Decode[Any],
-    ) -> AsyncCursor[Any]:
         request = Request.of(filter, sort, skip, limit, self._uuids)
         return AsyncCursor(self, Answering(request, use_of(hint), batch_size, after, with_uuids(decode, self._uuids)))
 
@@ -160,8 +147,9 @@ class AsyncSession:
         decode: Decode[Any] = "plain",
     ) -> Any:
         """The first document of an answer, None if it has none."""
+        ask: Callable[..., AsyncCursor[Any]] = self.find
         with self._in_time():
-            async with self._cursor(filter, sort, skip, 1, 100, hint, None, decode) as cursor:
+            async with ask(filter, sort=sort, skip=skip, limit=1, hint=hint, decode=decode) as cursor:
                 async for document in cursor:
                     return document
         return None

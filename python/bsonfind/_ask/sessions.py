@@ -76,19 +76,6 @@ class Session:
         Documents are read `batch_size` at a time, or fewer if they are long. `hint` says how they are found, as in pymongo: the path
         of an index, [(PATH, 1)], or {"$natural": 1} for a scan. Without it the program chooses.
         """
-        return self._cursor(filter, sort, skip, limit, batch_size, hint, after, decode)
-
-    def _cursor(
-        self,
-        filter: Filter | None,
-        sort: Sort | None,
-        skip: int,
-        limit: int,
-        batch_size: int,
-        hint: Hint | None,
-        after: str | None,
-        decode: Decode[Any],
-    ) -> Cursor[Any]:
         request = Request.of(filter, sort, skip, limit, self._uuids)
         return Cursor(self._questions, Answering(request, use_of(hint), batch_size, after, with_uuids(decode, self._uuids)))
 
@@ -123,7 +110,8 @@ class Session:
         decode: Decode[Any] = "plain",
     ) -> Any:
         """The first document of an answer, None if it has none."""
-        with self._questions.in_time(), self._cursor(filter, sort, skip, 1, 100, hint, None, decode) as cursor:
+        ask: Callable[..., Cursor[Any]] = self.find
+        with self._questions.in_time(), ask(filter, sort=sort, skip=skip, limit=1, hint=hint, decode=decode) as cursor:
             return next(cursor, None)
 
     def count_documents(self, filter: Filter | None = None) -> int:

@@ -13,6 +13,8 @@ TYPE_CHECKING = False
 if TYPE_CHECKING:
     from typing import Any, Callable, Sequence
 
+# The statuses of commands.
+GOOD, FAULTY, FAILED = 0, 1, 2
 # The greatest number that an option takes, as the program has it.
 MOST = 2_147_483_647
 # How many faults of a file `audit` reports one by one.

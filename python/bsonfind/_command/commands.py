@@ -6,7 +6,7 @@ import argparse
 import os
 
 from .._errors import DumpError, is_finding, why
-from .arguments import Refused
+from .arguments import FAILED, FAULTY, GOOD, Refused
 from .console import Console, Progress, visible
 
 # As `typing.TYPE_CHECKING`, without `typing`, which takes long to import.
@@ -16,7 +16,6 @@ if TYPE_CHECKING:
 
     from .._backup.reports import Audit, Report
 
-GOOD, FAULTY, FAILED = 0, 1, 2
 # The commands with the statuses of the program, in which 1 is all that failed.
 AS_THE_PROGRAM = ("check", "dump", "pack", "find", "prepare")
 

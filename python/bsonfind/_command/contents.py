@@ -8,18 +8,16 @@ import os
 import re
 import warnings
 from contextlib import closing
-from typing import Protocol
 
 from .._backup.backups import Dump, dumps_of
 from .._backup.grep import Hits, Problem, grep_dumps, wanted_of
 from .._backup.info import COLUMNS, info_of
 from .._backup.search import Wanted
 from .._run.processes import processors
-from .arguments import Refused
+from .arguments import FAILED, FAULTY, GOOD, Refused
 from .console import Console, Progress
 from .table import Table
 
-GOOD, FAULTY, FAILED = 0, 1, 2
 # The seconds after which a line of progress is printed.
 _PATIENCE = 1.0
 
@@ -45,8 +43,7 @@ def print_grep(words: argparse.Namespace, text: str, names: list[str]) -> int:
     wanted = _wanted(words, text)
     dumps = [*dumps_of(it for it in names if it != "-"), *(Dump(it) for it in names if it == "-")]
     items = grep_dumps(dumps, wanted, words.jobs or processors(), words.program, lambda files, size: Progress(console, files, size, _PATIENCE))
-    kind: type[_Counts] | type[_Lines] | type[_Rows] = _Counts if words.count else _Lines if words.json else _Rows
-    printing: _Printing = kind(console)
+    printing = (_Counts if words.count else _Lines if words.json else _Rows)(console)
     documents, status = 0, GOOD
     found: set[str] = set()
     failed: set[str] = set()
@@ -84,35 +81,24 @@ def _wanted(words: argparse.Namespace, text: str) -> Wanted:
     return Wanted(text, True, words.ignore_case, seconds=words.timeout, with_values=not words.count)
 
 
-class _Printing(Protocol):
-    """How what is found is printed."""
+class _Rows:
+    """A row for each field."""
+
+    _COLUMNS: tuple[str, ...] = ("file", "_id", "path", "value")
+
+    def __init__(self, console: Console) -> None:
+        self._console, self._table = console, Table(console, self._COLUMNS)
 
     def print(self, hits: Hits) -> None:
         """Prints what was found in some documents."""
+        self._table.print([(hits.name, it.id or "", it.path, it.value or "") for it in hits.rows])
 
     def end(self) -> None:
         """Prints what is known at the end alone."""
 
 
-class _Rows:
-    """A row for each field."""
-
-    def __init__(self, console: Console) -> None:
-        self._table = Table(console, ("file", "_id", "path", "value"))
-
-    def print(self, hits: Hits) -> None:
-        """Prints the fields."""
-        self._table.print([(hits.name, it.id or "", it.path, it.value or "") for it in hits.rows])
-
-    def end(self) -> None:
-        """Prints nothing more."""
-
-
-class _Lines:
+class _Lines(_Rows):
     """A line of JSON for each field."""
-
-    def __init__(self, console: Console) -> None:
-        self._console = console
 
     def print(self, hits: Hits) -> None:
         """Prints the fields."""
@@ -120,15 +106,14 @@ class _Lines:
         lines = (f'{{"file":{name},"id":{it.id or "null"},"path":{json.dumps(it.path)},"value":{it.value or "null"}}}\n' for it in hits.rows)
         self._console.documents([line.encode() for line in lines])
 
-    def end(self) -> None:
-        """Prints nothing more."""
 
-
-class _Counts:
+class _Counts(_Rows):
     """How many documents and fields of each dump have it."""
 
+    _COLUMNS = ("file", "documents", "fields")
+
     def __init__(self, console: Console) -> None:
-        self._table = Table(console, ("file", "documents", "fields"))
+        super().__init__(console)
         self._counts: dict[str, tuple[int, int]] = {}
 
     def print(self, hits: Hits) -> None:

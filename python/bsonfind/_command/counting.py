@@ -17,10 +17,10 @@ from .._backup.workers import Spread
 from .._dumps.numbers import Number, is_finite
 from .._dumps.paths import Path
 from .._run.wide import wide_program
+from .arguments import FAILED, FAULTY, GOOD
 from .console import Console, Progress
 from .table import Table
 
-GOOD, FAULTY, FAILED = 0, 1, 2
 # The columns of a sum, and what is printed of a document without the field.
 _OF_SUMS, _MISSING = ("sum", "NaN", "infinite", "other"), "missing"
 # How many rows are printed at once, and after how many seconds the progress is.

@@ -9,8 +9,8 @@ import sys
 import threading
 
 from .._errors import BsonfindError
-from .arguments import Refused, parser
-from .commands import AS_THE_PROGRAM, FAILED, FAULTY, run
+from .arguments import FAILED, FAULTY, Refused, parser
+from .commands import AS_THE_PROGRAM, run
 from .console import CannotWrite, NAME
 
 # As `typing.TYPE_CHECKING`, without `typing`, which takes long to import.

@@ -184,7 +184,9 @@ def why_none(listed: list[Listed], namespace: Namespace) -> str:
 def _kind_of(metadata: str) -> str:
     """Whether metadata is that of a view or a time series, which the list of an old mongodump does not say."""
     try:
-        options = json.loads(metadata)["options"]
-        return "view" if "viewOn" in options else "timeseries" if "timeseries" in options else ""
-    except (ValueError, KeyError, TypeError, RecursionError):
-        return ""
+        found = json.loads(metadata)
+    except (ValueError, RecursionError):
+        return ""  # Whoever reports metadata says what is wrong with it.
+    options = found.get("options") if isinstance(found, dict) else None
+    keys = options if isinstance(options, dict) else {}
+    return "view" if "viewOn" in keys else "timeseries" if "timeseries" in keys else ""
