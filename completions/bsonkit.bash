@@ -14,6 +14,10 @@ _bsonkit() {
 		return
 	fi
 	case $before in
+	--jsonFormat)
+		mapfile -t COMPREPLY < <(compgen -W 'canonical relaxed' -- "$word")
+		return
+		;;
 	--query | --sort | --index | --after | --skip | --limit | --batch | --jobs | --max-faults | --by | --sum | --sample | --only | --regex | --timeout) return ;;
 	esac
 	if [[ $word != -* ]]; then
@@ -21,6 +25,7 @@ _bsonkit() {
 		return
 	fi
 	case $command in
+	dump) options='--jsonFormat' ;;
 	find) options='--query --sort --index --after --skip --limit --batch --bson' ;;
 	audit) options='--list --expect --json --quiet --jobs --max-faults' ;;
 	salvage) options='--good --bad --out' ;;

@@ -25,6 +25,7 @@ complete -c bsonkit -n "not __bsonkit_command $commands" -f -a ids -d 'print the
 complete -c bsonkit -s h -l help -d 'print the usage'
 complete -c bsonkit -l version -d 'print the version'
 complete -c bsonkit -l program -r -d 'the program bsonfind'
+complete -c bsonkit -n '__bsonkit_command dump' -l jsonFormat -x -a 'canonical relaxed' -d 'the format of lines'
 complete -c bsonkit -n '__bsonkit_command find' -l query -x -d 'a query'
 complete -c bsonkit -n '__bsonkit_command find' -l sort -x -d 'the fields to sort by'
 complete -c bsonkit -n '__bsonkit_command find' -l index -x -d 'find documents by an index'

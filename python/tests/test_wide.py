@@ -108,6 +108,19 @@ class Commands(Room):
             told = self.run_command("--program", f"{program}s", command, path)
             self.assertEqual(told, (1, [], f"bsonkit: cannot start {program}s: No such file or directory\n"))
 
+    def test_relaxed(self) -> None:
+        """Numbers and dates as the specification of relaxed Extended JSON has them, of any form of a dump."""
+        data = document(field(16, "i", (5).to_bytes(4, "little")), field(18, "l", (1 << 40).to_bytes(8, "little")), DOUBLE[4:-1])
+        data += document(field(9, "t", (1_735_689_600_500).to_bytes(8, "little")))
+        lines = [b'{"i":5,"l":1099511627776,"d":1.0}', b'{"t":{"$date":"2025-01-01T00:00:00.5Z"}}']
+        for word, stdin in self.forms(data):
+            for words in (["--jsonFormat", "relaxed", word], [word, "--jsonFormat=relaxed"]):
+                self.assertEqual(self.run_command("dump", *words, stdin=stdin), (0, lines, "2 objects found\n"))
+            canonical = self.run_command("dump", word, stdin=stdin)
+            self.assertEqual(self.run_command("dump", "--jsonFormat", "canonical", word, stdin=stdin), canonical)
+        for words in (["dump", "--jsonFormat", "plain", PEOPLE], ["find", "--jsonFormat", "relaxed", PEOPLE], ["dump", PEOPLE, "--jsonFormat"]):
+            self.assertEqual(self.run_command(*words)[:2], (2, []))
+
     def test_larger_than_what_a_run_reads(self) -> None:
         """With a largest input of 30,000 bytes in place of 4,294,967,295."""
         data = PEOPLE.read_bytes() + DOUBLE + PEOPLE.read_bytes() + DAMAGED

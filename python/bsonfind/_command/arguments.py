@@ -15,6 +15,8 @@ if TYPE_CHECKING:
 
 # The statuses of commands.
 GOOD, FAULTY, FAILED = 0, 1, 2
+# The formats of lines, the first of which is that of all commands.
+FORMATS = ("canonical", "relaxed")
 # The greatest number that an option takes, as the program has it.
 MOST = 2_147_483_647
 # How many faults of a file `audit` reports one by one.
@@ -106,6 +108,7 @@ def _add_check(command: argparse.ArgumentParser) -> None:
 
 def _add_dump(command: argparse.ArgumentParser) -> None:
     command.epilog = f"{_AS_THE_PROGRAM.format('printed')} Unless it is 0, delete what it wrote."
+    command.add_argument("--jsonFormat", choices=FORMATS, default=FORMATS[0], dest="format", help="relaxed: numbers and dates as mongoexport")
     _add_dumps(command)
 
 

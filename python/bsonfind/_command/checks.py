@@ -32,10 +32,10 @@ def check_file(name: str, program: str, console: Console, front: str = "") -> bo
     return is_sound and not faulty
 
 
-def dump_file(name: str, program: str, console: Console, front: str = "") -> bool:
+def dump_file(name: str, program: str, console: Console, front: str = "", format: str = "canonical") -> bool:
     """Prints the documents of a dump, as `dump` does, and what it says after a text; gives whether no document is refused."""
     sys.stdout.flush()
-    printing, refused = Printing(program, stdout=sys.stdout.fileno()), False
+    printing, refused = Printing(program, stdout=sys.stdout.fileno(), format=format), False
     try:
         for _ in printing.lines(name, is_named=not front):
             pass  # Each run prints by itself.

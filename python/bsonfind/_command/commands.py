@@ -35,7 +35,7 @@ def _run_check(words: argparse.Namespace) -> int:
 def _run_dump(words: argparse.Namespace) -> int:
     from .checks import dump_file
 
-    return _run_each(words, dump_file)
+    return _run_each(words, lambda name, program, console, front: dump_file(name, program, console, front, words.format))
 
 
 def _run_pack(words: argparse.Namespace) -> int:

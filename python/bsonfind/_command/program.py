@@ -17,7 +17,8 @@ _LARGEST = 4_294_967_295
 _OTHERS = (b"\x6d\xe2\x99\x81", b"\x1f\x8b")
 # The commands of one plain dump that are those of the program, and the one of a text, which the program opens itself.
 _OF_DUMPS, _OF_TEXTS = ("check", "dump", "find"), ("pack",)
-# The options of these commands: those of `find`, each with a text or a number.
+# The option of `dump`, with its values; and those of `find`, each with a text or a number.
+_FORMAT, _FORMATS = "--jsonFormat", ("canonical", "relaxed")
 _TEXTS, _NUMBERS, _MOST = ("--query", "--sort", "--index", "--after"), ("--skip", "--limit", "--batch"), 2_147_483_647
 
 
@@ -33,7 +34,7 @@ def become_program(words: list[str]) -> None:
     if not rest or rest[0] not in (*_OF_DUMPS, *_OF_TEXTS):
         return
     command, (files, options) = rest[0], _split(rest[1:])
-    if len(files) != 1 or files[0] != "-" and files[0].startswith("-") or options and command != "find":
+    if len(files) != 1 or files[0] != "-" and files[0].startswith("-") or not _are_of(command, options):
         return
     file = files[0]
     wide = located_wide(program)
@@ -51,15 +52,23 @@ def _split(words: list[str]) -> tuple[list[str], list[str]]:
     options: list[str] = []
     while words:
         name, equals, value = words[0].partition("=")
-        taken = words[: 1 if equals or name not in (*_TEXTS, *_NUMBERS) else 2]
+        taken = words[: 1 if equals or name not in (*_TEXTS, *_NUMBERS, _FORMAT) else 2]
         del words[: len(taken)]
         value = value if equals or len(taken) == 1 else taken[1]
         (options if (equals or len(taken) == 2) and _is_option(name, value) else files).extend(taken)
     return files, options
 
 
+def _are_of(command: str, options: list[str]) -> bool:
+    """Whether a command has these options: `dump` that of a format, and `find` the others."""
+    is_format = [it.partition("=")[0] == _FORMAT for it in options]
+    return not options or (command == "find" and not any(is_format)) or (command == "dump" and is_format.count(True) == 1 and len(options) <= 2)
+
+
 def _is_option(name: str, value: str) -> bool:
     """Whether it is an option with a value that the program takes for one: else the command says what is wrong with it."""
+    if name == _FORMAT:
+        return value in _FORMATS
     if name in _NUMBERS:
         return value.isascii() and value.isdigit() and len(value) < 100 and int(value) <= _MOST
     try:

@@ -22,9 +22,9 @@ PACKED = re.compile(r"\d+ objects packed\n")
 class Printing:
     """The lines of a dump of all types. `documents` is how many were printed by now."""
 
-    def __init__(self, program: str, stdout: int = subprocess.PIPE) -> None:
+    def __init__(self, program: str, stdout: int = subprocess.PIPE, format: str = "canonical") -> None:
         """Where the runs print to a descriptor, no lines are given."""
-        self._words, self._stdout = [wide_program(program), "dump", "-"], stdout
+        self._words, self._stdout = [wide_program(program), "dump", *formatted(format), "-"], stdout
         self.documents = 0
 
     def lines(self, path: str, *, is_named: bool = False) -> Batches:
@@ -44,6 +44,11 @@ class Printing:
                     moved = error.moved(part.first, part.offset)
                     self.documents = moved.fault.document if moved.fault else self.documents
                     raise moved from None
+
+
+def formatted(format: str) -> list[str]:
+    """The option of `dump` for a format of lines, none for that of all commands."""
+    return [] if format == "canonical" else ["--jsonFormat", format]
 
 
 def lines_of_documents(documents: Sequence[bytes], program: str, group: Group | None = None) -> list[bytes]:
