@@ -1,3 +1,5 @@
 pub mod CallLemmas
 pub mod ServiceLemmas
+pub mod PlacesLemmas
+pub mod PlainLemmas
 pub mod ServeLemmas

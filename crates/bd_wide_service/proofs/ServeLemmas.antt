@@ -1,5 +1,5 @@
 -- The ends of a run of `serve` over documents of all types.
-use Rattle.std.proofs.Common.{◌≡◌, ℕ, List, [], Option, refl, ap, subst, inl, inr, Ok}
+use Rattle.std.proofs.Common.{◌≡◌, ℕ, List, [], Option, ◌∙◌, refl, ap, subst, inl, inr, Ok}
 use Rattle.bd_value.specs.Tree.{Doc}
 use Rattle.bd_io_device.specs.Devices.{Over, Reader, Writer, between, read_words}
 use Rattle.bd_io_device.proofs.DevicesLemmas.{takes_none}
@@ -19,8 +19,20 @@ use Rattle.bd_wide_service.specs.Call.{ByValue}
 use Rattle.bd_wide_service.specs.Reply.{RepliesByValue}
 use Rattle.bd_wide_service.specs.Serve.{ServeCase, case_run, refused_run, wide_serve_run}
 use Rattle.bd_wide_service.specs.Serve as cases
-use Rattle.bd_wide_service.specs.ServiceView.{IsServiceOver, LacksSomeReply, RepliesTo, service_state}
+use Rattle.bd_wide_service.specs.Places.{RepliesWithPlaces}
+use Rattle.bd_wide_service.specs.ServiceView.{IsServiceOver, LacksPlain, LacksSomeReply, RepliesInAll, RepliesInPlain, plain_dump, plain_state, service_state}
+use Rattle.bd_wide_service.specs.declared.plain.PlainService.{PlainService}
 use Rattle.bd_wide_service.specs.declared.service.WideService.{WideService}
+use Rattle.bd_bson_dump.specs.Collection.{bytes_of as bytes_of_dump, documents}
+use Rattle.bd_bson_dump.specs.declared.collection.Dump.{Dump}
+
+-- the replies of a session over this dump
+plain_replies : (dump : Dump) (s t : PlainService) (line text : List ℕ) → plain_dump s ≡ dump → RepliesInPlain s line text t
+    → RepliesWithPlaces (RepliesInText (bytes_of_dump dump) (documents dump)) (plain_state s) line text (plain_state t) × (plain_dump t ≡ dump)
+plain_replies dump s t line text is r = (
+  subst (λ (d : Dump). RepliesWithPlaces (RepliesInText (bytes_of_dump d) (documents d)) (plain_state s) line text (plain_state t)) is r.0,
+  r.1 ∙ is,
+)
 
 module _ {program : List ℕ} {C : Type 0} (state : C → Reader) (gives : C → Option (List ℕ) → C → Type 0) (file : Over Reader) where
   -- a run of a case is a run of `serve`
@@ -53,28 +65,35 @@ module _ {program : List ℕ} {C : Type 0} (state : C → Reader) (gives : C →
     load_reported (input_faults.Faulty fault) (bytes, read, first) (inr (f, same, reported)) = runs_out bytes read reported
 
   module _ (old new : C) (out err : Over Writer) (status : Status) (bytes : List ℕ) (read : ReadsInput file (Ok bytes)) where
-    -- a dump without doubles and decimal128
-    pub plain_run : (taken : List ℕ) (ds : List Doc) → taken ≡ bytes → IsDump ds bytes
-        → Prints program (talk_run_by state gives old new (RepliesInText taken ds)) out err status
-        → Prints program (wide_serve_run state gives old new file) out err status
-    plain_run taken ds same dump prints =
-        of_case old new (cases.plain bytes ds read dump)
-        (subst (λ (b : List ℕ). Prints program (talk_run_by state gives old new (RepliesInText b ds)) out err status) same prints)
-
     -- what a session does if a reply is not made is left out: that its state is unchanged is said of the machine
-    forget : (s : WideService) → Prints program (session_run state gives old new RepliesTo s LacksSomeReply) out err status
-        → Prints program (session_run state gives old new RepliesTo s (λ x y. y ≡ x)) out err status
-    forget s (inl printed) = inl printed
-    forget s (inr (inl next)) = inr (inl next)
-    forget s (inr (inr (text, (t, (command, mid, before, lacks)), took, reported))) =
+    forget : {S : Type 0} (Replies : S → List ℕ → List ℕ → S → Type 0) (Stays : S → S → Type 0) (s : S)
+        → Prints program (session_run state gives old new Replies s Stays) out err status
+        → Prints program (session_run state gives old new Replies s (λ x y. y ≡ x)) out err status
+    forget Replies Stays s (inl printed) = inl printed
+    forget Replies Stays s (inr (inl next)) = inr (inl next)
+    forget Replies Stays s (inr (inr (text, (t, (command, mid, before, lacks)), took, reported))) =
         inr (inr (text, (mid, (command, mid, before, inl refl)), took, reported))
+
+    -- a dump without doubles and decimal128
+    pub plain_run : (dump : Dump) (s : PlainService) → bytes_of_dump dump ≡ bytes → IsDump (documents dump) bytes → plain_dump s ≡ dump
+        → plain_state s ≡ new_state → Prints program (session_run state gives old new RepliesInPlain s LacksPlain) out err status
+        → Prints program (wide_serve_run state gives old new file) out err status
+    plain_run dump s same is over is_new prints =
+        let ds = documents dump in
+        let represented = represented_run plain_state (λ t. plain_dump t ≡ dump) RepliesInPlain (RepliesWithPlaces (RepliesInText (bytes_of_dump dump) ds))
+        (λ x y line text fact r. plain_replies dump x y line text fact r)
+        (λ x y. y ≡ x) IsUnchanged (λ x y fact same. ap (λ t. plain_state t) same) state gives old new s over program out err status (forget RepliesInPlain LacksPlain s prints) in
+        of_case old new (cases.plain bytes ds read is)
+        (subst (λ (b : List ℕ). Prints program (talk_run_by state gives old new (RepliesWithPlaces (RepliesInText b ds))) out err status) same
+        (subst (λ x. Prints program (session_run state gives old new (RepliesWithPlaces (RepliesInText (bytes_of_dump dump) ds)) x IsUnchanged) out err status) is_new represented))
 
     -- a dump by value
     pub by_value_run : ((ds : List Doc) → IsDump ds bytes → ⊥) → (v : ByValue bytes) (s : WideService) → IsServiceOver v s → service_state s ≡ new_state
-        → Prints program (session_run state gives old new RepliesTo s LacksSomeReply) out err status
+        → Prints program (session_run state gives old new RepliesInAll s LacksSomeReply) out err status
         → Prints program (wide_serve_run state gives old new file) out err status
     by_value_run not_dump v s over is_new prints =
-        let represented = represented_run service_state (λ t. IsServiceOver v t) RepliesTo (RepliesByValue v) (λ x y line text is_over r. r bytes v is_over)
-        (λ x y. y ≡ x) IsUnchanged (λ x y is_over same. ap (λ t. service_state t) same) state gives old new s over program out err status (forget s prints) in
+        let represented = represented_run service_state (λ t. IsServiceOver v t) RepliesInAll (RepliesWithPlaces (RepliesByValue v))
+        (λ x y line text is_over r. r bytes v is_over)
+        (λ x y. y ≡ x) IsUnchanged (λ x y is_over same. ap (λ t. service_state t) same) state gives old new s over program out err status (forget RepliesInAll LacksSomeReply s prints) in
         of_case old new (cases.by_value bytes read not_dump v)
-        (subst (λ x. Prints program (session_run state gives old new (RepliesByValue v) x IsUnchanged) out err status) is_new represented)
+        (subst (λ x. Prints program (session_run state gives old new (RepliesWithPlaces (RepliesByValue v)) x IsUnchanged) out err status) is_new represented)

@@ -21,8 +21,8 @@ use Rattle.bd_wide_find.proofs.SearchLemmas.{coded_count, count_is}
 use Rattle.bd_wide_service.specs.Call.{ByValue, IsCallIn}
 use Rattle.bd_wide_service.specs.Reply.{AnswersByValue, IsReplyText}
 use Rattle.bd_wide_service.specs.inside.Call.{IsOver}
-use Rattle.bd_wide_service.specs.ServiceView.{IsServiceOver, LacksReplyTo, RepliesTo, service_state}
-use Rattle.bd_wide_service.specs.inside.ServiceView.{IsWritten}
+use Rattle.bd_wide_service.specs.ServiceView.{IsServiceOver, service_state}
+use Rattle.bd_wide_service.specs.inside.ServiceView.{IsWritten, LacksReplyTo, RepliesTo}
 use Rattle.bd_wide_service.specs.declared.service.WideService.{WideService}
 
 -- what holds after success holds if it implies another fact
@@ -65,7 +65,7 @@ service_over v s same over = record { bytes_are = same; table_is = over.table_is
 
 -- ---- the text of a reply
 
-tokens : (token : Option Token) → option_map token_text token ≡ option_map positioned_text (option_map positioned_token token)
+pub tokens : (token : Option Token) → option_map token_text token ≡ option_map positioned_text (option_map positioned_token token)
 tokens None = refl
 tokens (Some t) = refl
 

@@ -1,4 +1,5 @@
 pub mod Call
+pub mod Places
 pub mod Reply
 pub mod Serve
 pub mod ServiceView

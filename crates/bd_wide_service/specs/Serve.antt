@@ -8,7 +8,7 @@ use Rattle.bd_cli_service.specs.Talk.{RepliesInText}
 use Rattle.bd_cli_scan.specs.{Input.ReadsInput, Run.Run, Output.fault_text, Output.refusal_output}
 use Rattle.bd_cli.specs.Serve.{talk_run_by}
 use Rattle.bd_wide_copy.specs.Dump.{IsFirstFault}
-use Rattle.bd_wide_service.specs.{Call.ByValue, Reply.RepliesByValue}
+use Rattle.bd_wide_service.specs.{Call.ByValue, Places.RepliesWithPlaces, Reply.RepliesByValue}
 
 -- what a run of `serve` comes to, by its file
 pub data ServeCase (file : Over Reader) : Type 0 where
@@ -35,8 +35,8 @@ module _ {C : Type 0} (state : C → Reader) (gives : C → Option (List ℕ) �
   abbrev pub case_run : {file : Over Reader} → ServeCase file → Run
   case_run (unread fault _) = refused_run (read_words fault)
   case_run (faulty bytes fault _ _) = refused_run (fault_text fault.document (fault_view fault))
-  case_run (plain bytes ds _ _) = talk_run_by state gives old new (RepliesInText bytes ds)
-  case_run (by_value bytes _ _ v) = talk_run_by state gives old new (RepliesByValue v)
+  case_run (plain bytes ds _ _) = talk_run_by state gives old new (RepliesWithPlaces (RepliesInText bytes ds))
+  case_run (by_value bytes _ _ v) = talk_run_by state gives old new (RepliesWithPlaces (RepliesByValue v))
 
   -- A run of `serve` is that of its case; or memory ran out before a command was read.
   abbrev pub wide_serve_run : Over Reader → Run

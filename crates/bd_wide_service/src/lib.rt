@@ -32,9 +32,13 @@
 //!
 //! - `serve`: the command, over any devices: `specs/Serve.antt`.
 //! - `service`: `WideService`, which replies to a line: `specs/ServiceView.antt`, `specs/Reply.antt`.
+//! - `plain`: `PlainService`, the same over a dump without doubles and decimal128, as `bsonfind serve` replies.
+//! - `places`: the field `places` of `getMore`, over either dump: `specs/Places.antt`.
 //! - `call`: the call in a line, by value: `specs/Call.antt`.
 #![tactic(auto)]
 
 mod call;
+mod places;
+mod plain;
 pub mod serve;
 mod service;

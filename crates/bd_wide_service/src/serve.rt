@@ -6,9 +6,10 @@ ghost use Rattle.bd_cli_scan.specs.{Input.ReadsInput, Input.ReadsNoFurther, Run.
 ghost use Rattle.bd_wide_copy.specs.Dump.{AreDocuments, bytes_of};
 ghost use Rattle.bd_wide_service.specs.Serve.{wide_serve_run};
 
+use crate::plain::PlainService;
 use crate::service::WideService;
 use bd_bson_dump::read_dump;
-use bd_cli::{reply_to_commands, serve_dump};
+use bd_cli::reply_to_commands;
 use bd_cli_files::load::report_load_fault;
 use bd_cli_scan::Status;
 use bd_cli_scan::output::report_no_memory;
@@ -80,7 +81,10 @@ fn serve_plain<C: Input, O: Output, E: Output>(
         (over O.state out.old out.new) (over E.state err.old err.new) result }
 {
     match read_dump(alloc, dump.into_bytes()) {
-        Ok(dump) => serve_dump(alloc, program, dump, commands, out, err),
+        Ok(dump) => {
+            let mut service = PlainService::new(alloc, dump);
+            reply_to_commands(alloc, program, &mut service, commands, out, err)
+        }
         Err(_) => report_no_memory(program, err),
     }
 }

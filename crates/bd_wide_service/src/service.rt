@@ -6,6 +6,7 @@ ghost use Rattle.bd_cursor.specs.SessionView.{dump_of};
 ghost use Rattle.bd_wide_copy.specs.Dump.{IsCount, bytes_of};
 
 use crate::call::{WideCallFault, call_in};
+use crate::places::{PlacedLine, line_of, placed_line, reply_numbers};
 use bd_cli_service::{Call, LineRefusal, Reply, perform, write_batch, write_refusal, write_reply};
 use bd_cursor::Session;
 use bd_io_lines::Replier;
@@ -32,8 +33,8 @@ impl WideService {
     ghost use Rattle.bd_cli_service.specs.ServiceView.{session_call};
     ghost use Rattle.bd_wide_copy.specs.Dump.{AreDocuments};
     ghost use Rattle.bd_wide_service.specs.{Call.ByValue, Call.IsCallIn};
-    ghost use Rattle.bd_wide_service.specs.ServiceView.{IsServiceOver, LacksReplyTo, RepliesTo, service_state};
-    ghost use Rattle.bd_wide_service.specs.inside.ServiceView.{IsWritten};
+    ghost use Rattle.bd_wide_service.specs.ServiceView.{IsServiceOver, service_state};
+    ghost use Rattle.bd_wide_service.specs.inside.ServiceView.{IsWritten, LacksReplyTo, RepliesTo};
 
     /// A session with no index and no cursor. It fails only if memory runs out.
     pub(crate) fn new(alloc: Global, dump: WideDump) -> Result<WideService, NoMemory>
@@ -49,6 +50,21 @@ impl WideService {
             table,
             session: Session::new(alloc, copy),
         })
+    }
+
+    /// Appends the reply to a line without the field `places`. The session is then in the state after the call in the line.
+    fn reply_line(&mut self, line: &[u8], text: &mut Vec<u8>) -> Result<(), NoMemory>
+        ensures replies { OnOk result ((reply : List ℕ) × (text.new.items ≡ text.old.items ++ reply)
+            × RepliesTo self.old line.now reply self.new) }
+        ensures err { OnErr result ((text.new.items ≡ text.old.items)
+            × LacksReplyTo self.old line.now self.new) }
+    {
+        match call_in(self.alloc, line, &self.table) {
+            Ok(call) => self.answer(line, call, text),
+            Err(WideCallFault::NoMemory) => Err(AllocError),
+            Err(WideCallFault::Refused(refusal)) => self.refuse(refusal, text),
+            Err(WideCallFault::Types) => write_refusal("numbers", 1, TYPES, text),
+        }
     }
 
     /// Makes a call that is in the line, and appends the reply to it.
@@ -100,27 +116,32 @@ impl WideService {
 impl Replier for WideService {
     ghost use Rattle.std.specs.Prelude.{◌≡◌, ◌++◌, List, OnErr, OnOk, ℕ};
     ghost use Rattle.bd_io_lines.specs.Serving.{RunsOutAt};
-    ghost use Rattle.bd_wide_service.specs.ServiceView.{LacksReplyTo, LacksSomeReply, RepliesTo};
+    ghost use Rattle.bd_wide_service.specs.ServiceView.{LacksSomeReply, RepliesInAll};
 
-    ghost replies = { RepliesTo };
+    ghost replies = { RepliesInAll };
 
     ghost stays = { LacksSomeReply };
 
     /// Appends the reply to a line. The session is then in the state after the call in the line.
     fn reply(&mut self, command: &[u8], text: &mut Vec<u8>) -> Result<(), AllocError>
         ensures replies { OnOk result ((reply : List ℕ) × (text.new.items ≡ text.old.items ++ reply)
-            × RepliesTo self.old command.now reply self.new) }
+            × RepliesInAll self.old command.now reply self.new) }
         ensures err { OnErr result (text.new.items ≡ text.old.items) }
-        ensures out_of_memory { OnErr result
-            (RunsOutAt LacksSomeReply RepliesTo self.old command.now self.new) }
         // If memory runs out, the session is unchanged, or is in the state after the call whose reply could not be made.
-        ensures lacks { OnErr result (LacksReplyTo self.old command.now self.new) }
+        ensures out_of_memory { OnErr result
+            (RunsOutAt LacksSomeReply RepliesInAll self.old command.now self.new) }
     {
-        match call_in(self.alloc, command, &self.table) {
-            Ok(call) => self.answer(command, call, text),
-            Err(WideCallFault::NoMemory) => Err(AllocError),
-            Err(WideCallFault::Refused(refusal)) => self.refuse(refusal, text),
-            Err(WideCallFault::Types) => write_refusal("numbers", 1, TYPES, text),
+        match placed_line(self.alloc, command) {
+            Err(_) => Err(AllocError),
+            Ok(PlacedLine::Absent) => self.reply_line(command, text),
+            Ok(PlacedLine::Documents(document)) => match line_of(self.alloc, &document) {
+                Ok(line) => self.reply_line(&line, text),
+                Err(_) => Err(AllocError),
+            },
+            Ok(PlacedLine::Numbers { id, batch }) => {
+                reply_numbers(self.alloc, &mut self.session, id, batch, text)
+            }
+            Ok(PlacedLine::Faulty(fault)) => self.refuse(LineRefusal::Command(fault), text),
         }
     }
 }

@@ -5,3 +5,5 @@
 mod calls;
 #[cfg(test)]
 mod examples;
+#[cfg(test)]
+mod numbers;

@@ -2,18 +2,18 @@ use Rattle.std.proofs.Common.{◌∙◌, List, subst}
 use Rattle.std.specs.Prelude.{ℕ}
 use Rattle.bd_io_device.specs.Devices.{over}
 use Rattle.bd_bson_check.specs.Dump.{IsDump}
-use Rattle.bd_bson_dump.specs.Collection.{bytes_of as bytes_of_dump, documents}
+use Rattle.bd_bson_dump.specs.Collection.{documents}
 use Rattle.bd_wide_copy.specs.Dump.{bytes_of}
 use Rattle.bd_wide_service.proofs.ServeLemmas.{plain_run, runs_out}
 use Rattle.bd_wide_service.proofs.serve.serve_plain.Goals as goal
 
 pub returns-in-Ok : goal.returns-in-Ok
 returns-in-Ok g c = λ file read.
-    let ds = documents c.in-Ok.dump in
-    let is = subst (λ (b : List ℕ). IsDump ds b) c.into_bytes.ensures c.in-Ok.ensures.dump in
-    plain_run g.C.Input.state g.C.Input.read_gives file c.args.commands.now c.serve_dump.new.commands
-    (over g.O.Output.state c.args.out.now c.serve_dump.new.out) (over g.E.Output.state c.args.err.now c.serve_dump.new.err) c.serve_dump.result
-    (bytes_of c.args.dump) read (bytes_of_dump c.in-Ok.dump) ds (c.in-Ok.ensures.bytes ∙ c.into_bytes.ensures) is c.serve_dump.ensures
+    let is = subst (λ (b : List ℕ). IsDump (documents c.in-Ok.dump) b) c.into_bytes.ensures c.in-Ok.ensures.dump in
+    plain_run g.C.Input.state g.C.Input.read_gives file c.args.commands.now c.reply_to_commands.new.commands
+    (over g.O.Output.state c.args.out.now c.reply_to_commands.new.out) (over g.E.Output.state c.args.err.now c.reply_to_commands.new.err)
+    c.reply_to_commands.result (bytes_of c.args.dump) read c.in-Ok.dump c.new-service.result (c.in-Ok.ensures.bytes ∙ c.into_bytes.ensures) is
+    c.new-service.ensures.dump c.new-service.ensures.state c.reply_to_commands.ensures
 
 pub returns : goal.returns
 returns g c = λ file read.
