@@ -1,7 +1,7 @@
 # Completion of bsonwide in bash.
 
-# The files whose names begin with the word, all or those that end so, directories, and the hyphen of the standard input.
-_bsonwide_inputs() {
+# The files whose names begin with the word, all or those that end so, and directories.
+_bsonwide_files() {
 	local ending=$1 word=$2 name
 	compopt -o filenames 2>/dev/null
 	while IFS= read -r name; do
@@ -9,6 +9,12 @@ _bsonwide_inputs() {
 			COMPREPLY+=("$name")
 		fi
 	done < <(compgen -f -- "$word")
+}
+
+# The same, and the hyphen of the standard input.
+_bsonwide_inputs() {
+	local ending=$1 word=$2
+	_bsonwide_files "$ending" "$word"
 	if [[ -z $word || $word == - ]]; then
 		COMPREPLY+=(-)
 	fi
@@ -52,7 +58,7 @@ _bsonwide() {
 	local word=${COMP_WORDS[COMP_CWORD]} command=${COMP_WORDS[1]} before=${COMP_WORDS[COMP_CWORD - 1]} options
 	COMPREPLY=()
 	if ((COMP_CWORD == 1)); then
-		mapfile -t COMPREPLY < <(compgen -W 'dump check pack find order --help' -- "$word")
+		mapfile -t COMPREPLY < <(compgen -W 'dump check pack find serve order --help' -- "$word")
 		return
 	fi
 	case $command in
@@ -68,6 +74,7 @@ _bsonwide() {
 	case $command in
 	check | order) _bsonwide_inputs .bson "$word" ;;
 	pack) _bsonwide_inputs '' "$word" ;;
+	serve) _bsonwide_files .bson "$word" ;; # the commands come from standard input
 	esac
 }
 

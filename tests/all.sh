@@ -45,6 +45,8 @@ if cp crates/bsonfind/out/bsonfind bsonfind && cp crates/bsonwide/out/bsonwide b
 	add
 	tests/wide/finds.py bsonwide 40 | tee "$log"
 	add
+	tests/wide/serves.py bsonwide 60 | tee "$log"
+	add
 	tests/wide/others.py --count 10000 | tee "$log"
 	add
 else

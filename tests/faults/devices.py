@@ -51,6 +51,7 @@ from growths import (
     STARVED,
     TALK,
     USAGE,
+    by_value,
     counted,
     frames,
     lines,
@@ -142,6 +143,11 @@ ORDER = [(DOUBLE, ORDERED), (INT32, bytes.fromhex("18000000 12 7e6e00 0100000000
 # A length that no document has, and what follows it.
 REST = b"\1\0\0\0and the rest"
 SESSION = list(zip(lines(TALK)[::2], lines(TALK)[1::2]))
+# What `bsonwide` alone serves: a double, a decimal128 and an int32.
+VALUES_DUMP = DOUBLE + DECIMAL + INT32
+BY_VALUE = list(zip(lines(by_value())[::2], lines(by_value())[1::2]))
+# The sessions of the program, each with its dump.
+SESSIONS = [("several.bson", SEVERAL, SESSION), *([("values.bson", VALUES_DUMP, BY_VALUE)] if IS_WIDE else [])]
 
 SMALL = of_program(
     [
@@ -149,7 +155,7 @@ SMALL = of_program(
         Case("check", ["check", FILE], joined(CHECK), Ran(1, shown(CHECK), b"3 documents, %d faulty\n" % (2 - IS_WIDE)), partial(checked, CHECK)),
         Case("pack", ["pack", FILE], joined(PACK), Ran(0, shown(PACK), b"%d objects packed\n" % len(PACK))),
         Case("find", ["find", FILE, "--sort", '{"a":1}', "--index", "a"], FIVE_DUMP, Ran(0, shown(FIVE), counted(5, "end", 4, FIVE_DUMP, sort='{"a":1}').encode())),
-        Case("serve", ["serve", FILE], SEVERAL, Ran(0, shown(SESSION), b""), commands=joined(SESSION)),
+        *(Case(f"serve {name}", ["serve", FILE], data, Ran(0, shown(talk), b""), commands=joined(talk)) for name, data, talk in SESSIONS),
         Case("order", ["order", FILE], joined(ORDER), Ran(0, shown(ORDER), b""), partial(ordered, ORDER)),
         Case("order of a bad length", ["order", FILE], joined(ORDER) + REST, Ran(0, shown(ORDER) + REST, b""), passed_on),
     ]
@@ -266,22 +272,23 @@ def test_reads(tests: Tests, failing: Failing) -> None:
                 judge(tests, f"{name}, byte by byte", results, len(case.data) + 1, len(case.data) + 1)
 
 
-def replied(given: int) -> Ran:
+def replied(session: list[Part], given: int) -> Ran:
     """The replies to the commands that were read whole."""
-    return Ran(1, shown(whole(SESSION, given)), UNREAD)
+    return Ran(1, shown(whole(session, given)), UNREAD)
 
 
 def test_commands(tests: Tests, failing: Failing) -> None:
     if "serve" not in COMMANDS:
         return
-    data, file = joined(SESSION), failing.room / "commands"
-    (failing.room / "several.bson").write_bytes(SEVERAL)
-    file.write_bytes(data)
-    for name, stdin in (("a pipe", data), ("a file", file)):
-        way = Way(name, ["serve", "several.bson"], stdin, b"", 0)
-        judge(tests, f"each read of commands of {name} fails", failing.each(partial(wrong_read, failing, way, replied, BLOCKS)), 2, 2)
-        results = failing.each(partial(wrong_read, failing, way, replied, SINGLE))
-        judge(tests, f"each read of commands of {name} fails, byte by byte", results, len(data) + 1, len(data) + 1)
+    for dump, bytes_of_dump, session in SESSIONS:
+        data, file = joined(session), failing.room / "commands"
+        (failing.room / dump).write_bytes(bytes_of_dump)
+        file.write_bytes(data)
+        for name, stdin in (("a pipe", data), ("a file", file)):
+            way, wanted = Way(name, ["serve", dump], stdin, b"", 0), partial(replied, session)
+            judge(tests, f"{dump}, each read of commands of {name} fails", failing.each(partial(wrong_read, failing, way, wanted, BLOCKS)), 2, 2)
+            results = failing.each(partial(wrong_read, failing, way, wanted, SINGLE))
+            judge(tests, f"{dump}, each read of commands of {name} fails, byte by byte", results, len(data) + 1, len(data) + 1)
 
 
 def wrong_write(failing: Failing, way: Way, answer: Ran, descriptor: int, size: int, error: int, write: int) -> str | None:

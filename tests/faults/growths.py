@@ -109,6 +109,34 @@ REFUSED = """\
 {"ok":false,"layer":"session","number":{"$numberInt":"3"},"text":"index is there"}
 """
 
+# Over a double, a decimal128 and an int32, by value. The tokens are those after the one that is found, and, sorted, after two and all.
+VALUES = """\
+{"createIndex":"d"}
+{"ok":true,"entries":{"$numberLong":"3"},"multikey":false}
+{"find":{"d":{"$gte":1.5}}}
+{"ok":true,"cursor":{"$numberLong":"1"}}
+{"getMore":1,"batch":1}
+{"ok":true,"documents":[{"d":{"$numberDecimal":"1.50"}}],"end":true,"token":"%(one)s"}
+{"explain":{"d":1},"use":"scan"}
+{"ok":true,"plan":"scan","index":null,"entries":{"$numberLong":"0"},"documents":{"$numberLong":"3"},"matches":{"$numberLong":"1"}}
+{"find":{},"sort":{"d":-1},"use":{"index":"d"}}
+{"ok":true,"cursor":{"$numberLong":"2"}}
+{"getMore":2,"batch":2}
+{"ok":true,"documents":[{"d":{"$numberDecimal":"1.50"}},{"d":{"$numberDouble":"1.0"}}],"end":false,"token":"%(two)s"}
+{"resume":"%(two)s","sort":{"d":-1},"use":"scan"}
+{"ok":true,"cursor":{"$numberLong":"3"}}
+{"getMore":3,"batch":5}
+{"ok":true,"documents":[{"a":{"$numberInt":"1"}}],"end":true,"token":"%(all)s"}
+{"find":{"d":{"$type":"double"}}}
+{"ok":false,"layer":"numbers","number":{"$numberInt":"1"},"text":"the types of numbers are not told apart here"}
+{"find":{"d":{"$numberDouble":"x"}}}
+{"ok":false,"layer":"json","number":{"$numberInt":"4"},"text":"bad wrapper","at":{"$numberLong":"13"}}
+{"find":{"d":1.5},"limit":1.0}
+{"ok":false,"layer":"command","number":{"$numberInt":"5"},"text":"bad field"}
+{"killCursor":2}
+{"ok":true}
+"""
+
 
 class Run(NamedTuple):
     """What is run, over which standard input, and the whole answer. A piece of standard output is written whole or not at all."""
@@ -186,8 +214,17 @@ def both_runs() -> list[Run]:
     ]
 
 
-def wide_runs() -> list[Run]:
-    """Runs over what `bsonwide` alone reads."""
+def by_value() -> str:
+    """The session over the three numbers. Their codes are 1 and 3, of the numbers 1 and 1.5."""
+    down = digest(CODED, request_text(sort='{"d":-1}'))
+    one = digest(CODED, request_text(query='{"d":{"$gte":{"$numberLong":"3"}}}'))
+    return VALUES % {"one": token_of(1, 1, one), "two": token_of(2, 0, down), "all": token_of(3, 2, down)}
+
+
+def wide_runs(failing: Failing) -> list[Run]:
+    """Runs over what `bsonwide` alone reads, and sessions."""
+    for name, data in (("several.bson", SEVERAL), ("numbers.bson", DOUBLE + DECIMAL + INT32)):
+        (failing.room / name).write_bytes(data)
     numbers, number_lines = [DOUBLE, DECIMAL, INT32], lines(DOUBLE_LINE + DECIMAL_LINE + INT32_LINE)
     refused = 'document 1, byte 20, path "d": not a whole number of 64 bits'
     return [
@@ -201,6 +238,9 @@ def wide_runs() -> list[Run]:
         Run("find, some types of numbers", ["find", "-", "--query", '{"d":{"$type":"double"}}'], DOUBLE, [], f"{NAME}: query: the types of numbers are not told apart here\n", 1),
         Run("find, a bad number", ["find", "-", "--query", '{"d":{"$numberDouble":"x"}}'], DOUBLE, [], f"{NAME}: query: byte 5: bad wrapper\n", 1),
         Run("find, a bad dump", ["find", "-", "--query", '{"d":1.5}'], DOUBLE + BAD, [], f'{NAME}: document 1, byte 40, path "a.0.1": bad boolean\n', 1),
+        talk("a talk", "several.bson", TALK),
+        talk("a talk by value", "numbers.bson", by_value()),
+        Run("serve, a bad dump", ["serve", "/dev/stdin"], DOUBLE + BAD, [], f'{NAME}: document 1, byte 40, path "a.0.1": bad boolean\n', 1),
         Run("order", ["order", "-"], DOUBLE, [ORDERED], ""),
         Run("order of a number without a code", ["order", "-"], DOUBLE + DECIMAL, [ORDERED], f"{NAME}: {refused}\n", 1),
     ]
@@ -263,7 +303,7 @@ def refused(failing: Failing, run: Run, onward: int, growth: int) -> Ran | None:
 
 
 def test_growths(tests: Tests, failing: Failing) -> None:
-    runs = both_runs() + (wide_runs() if IS_WIDE else bsonfind_runs(failing))
+    runs = both_runs() + (wide_runs(failing) if IS_WIDE else bsonfind_runs(failing))
     for run in [run for run in runs if not run.words or run.words[0] in [*COMMANDS, "--help"]]:
         ran, counts = run.on(failing)
         tests.want(f"{run.name}, the whole", ran == run.whole(), ran)

@@ -31,8 +31,9 @@ from support import ROOT, commands_of
 
 PROGRAM = Path(sys.argv[3]).resolve() if len(sys.argv) > 3 else BUILT
 NAME = PROGRAM.name
-COMMANDS = commands_of(NAME)
 IS_WIDE = NAME == "bsonwide"
+# `find` and `serve` of `bsonwide`, whose tokens the model does not make, are compared by tests/wide.
+COMMANDS = [it for it in commands_of(NAME) if not (IS_WIDE and it in ("find", "serve"))]
 STACK = 1 << 20
 TIMEOUT = 60
 SHALLOW = 300  # documents of the examples to begin with, which stand before others

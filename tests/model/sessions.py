@@ -23,7 +23,8 @@ SESSION_WORDS = (
 PATH_WORDS = ("empty component", "too many components")
 COMMAND_WORDS = ("unknown command", "missing field", "unknown field", "repeated field", "bad field")
 UNKNOWN_COMMAND, MISSING_FIELD, UNKNOWN_FIELD, REPEATED_FIELD, BAD_FIELD = range(1, 6)
-WORDS = {"command": COMMAND_WORDS, "path": PATH_WORDS, "session": SESSION_WORDS}
+NUMBERS_WORDS = ("the types of numbers are not told apart here",)
+WORDS = {"command": COMMAND_WORDS, "path": PATH_WORDS, "session": SESSION_WORDS, "numbers": NUMBERS_WORDS}
 
 
 class Told(Exception):
@@ -109,6 +110,9 @@ class Session:
         "explain": "document", "sparse": "truth", "filter": "document", "sort": "document", "skip": "count", "limit": "count", "batch": "count", "use": "use",
     }  # fmt: skip
 
+    # Whether doubles and decimal128 are read in a line.
+    is_wide = False
+
     def __init__(self, dump: Dump) -> None:
         self.dump = dump
         self.indexes: list[Index] = []
@@ -120,7 +124,7 @@ class Session:
     def reply(self, line: bytes) -> str:
         """The reply to a line."""
         try:
-            command = read_document(line)
+            command = read_document(line, self.is_wide)
             name = self.check(command)
             fields = dict(reversed(command.of))
             return f'{{"ok":true{getattr(self, name)(fields)}}}'

@@ -21,7 +21,7 @@ from support import ROOT
 
 COMPLETIONS = ROOT / "completions"
 COMMANDS = {"dump", "check", "pack", "find", "serve"}
-OF_WIDE = {"dump", "check", "pack", "find", "order"}
+OF_WIDE = {"dump", "check", "pack", "find", "serve", "order"}
 OPTIONS = {"--query", "--sort", "--skip", "--limit", "--batch", "--index", "--after"}
 FORMAT, FORMATS = {"--jsonFormat"}, {"canonical", "relaxed"}
 DUMPS = {"one.bson", "two.bson", "room/"}
@@ -30,6 +30,22 @@ HELP = {"-h", "--help"}
 
 # A line after the name of a program, what is offered after it, and what only some shells offer there.
 Row = tuple[str, set[str], set[str]]
+OF_FIND: list[Row] = [
+    # zsh and fish offer options once a hyphen stands there.
+    ("find ", DUMPS | {"-"}, OPTIONS | OTHERS),
+    ("find -", OPTIONS, {"-"}),
+    ("find --", OPTIONS, set()),
+    ("find one.bson --", OPTIONS, set()),
+    ("find one.bson --s", {"--sort", "--skip"}, set()),
+    ("find one.bson --skip 1 --s", {"--sort"}, set()),
+    ("find one.bson --skip=1 --s", {"--sort"}, set()),
+    ("find one.bson --query '{\"a\":1}' --", OPTIONS - {"--query"}, set()),
+    ("find one.bson t", set(), set()),
+    ("find --batch 3 ", DUMPS | {"-"}, OPTIONS - {"--batch"} | OTHERS),
+    ("find --batch=3 t", {"two.bson"}, set()),
+    *((f"find one.bson {option} ", set(), set()) for option in sorted(OPTIONS)),
+    *((f"find {option}=", set(), set()) for option in sorted(OPTIONS)),
+]
 OF_BSONFIND: list[Row] = [
     ("", COMMANDS, HELP),
     ("-", {"--help"}, HELP),
@@ -47,20 +63,7 @@ OF_BSONFIND: list[Row] = [
     ("serve ", DUMPS, OTHERS),
     ("serve -", set(), set()),
     ("serve one.bson ", set(), set()),
-    # zsh and fish offer options once a hyphen stands there.
-    ("find ", DUMPS | {"-"}, OPTIONS | OTHERS),
-    ("find -", OPTIONS, {"-"}),
-    ("find --", OPTIONS, set()),
-    ("find one.bson --", OPTIONS, set()),
-    ("find one.bson --s", {"--sort", "--skip"}, set()),
-    ("find one.bson --skip 1 --s", {"--sort"}, set()),
-    ("find one.bson --skip=1 --s", {"--sort"}, set()),
-    ("find one.bson --query '{\"a\":1}' --", OPTIONS - {"--query"}, set()),
-    ("find one.bson t", set(), set()),
-    ("find --batch 3 ", DUMPS | {"-"}, OPTIONS - {"--batch"} | OTHERS),
-    ("find --batch=3 t", {"two.bson"}, set()),
-    *((f"find one.bson {option} ", set(), set()) for option in sorted(OPTIONS)),
-    *((f"find {option}=", set(), set()) for option in sorted(OPTIONS)),
+    *OF_FIND,
 ]
 OF_BSONWIDE: list[Row] = [
     ("", OF_WIDE, HELP),
@@ -79,6 +82,10 @@ OF_BSONWIDE: list[Row] = [
     ("dump one.bson --jsonFormat ", FORMATS, set()),
     ("dump --jsonFormat r", {"relaxed"}, set()),
     ("dump --jsonFormat relaxed ", DUMPS | {"-"}, OTHERS),
+    # The commands of serve come from standard input, so it has no hyphen.
+    ("serve ", DUMPS, OTHERS),
+    ("serve -", set(), set()),
+    ("serve one.bson ", set(), set()),
     *(
         row
         for name in ("check", "order")
@@ -89,6 +96,7 @@ OF_BSONWIDE: list[Row] = [
             (f"{name} one.bson ", set(), set()),
         )
     ),
+    *OF_FIND,
 ]
 ROWS = {"bsonfind": OF_BSONFIND, "bsonwide": OF_BSONWIDE}
 KNOWN = COMMANDS | OF_WIDE | OPTIONS | FORMAT | FORMATS | DUMPS | OTHERS | HELP | {"-"}

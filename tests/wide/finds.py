@@ -35,6 +35,8 @@ def named_types(value: Value) -> bool:
     """Whether a `$type` anywhere in a query names some of the four types of numbers, but not all."""
     if value.kind == "object":
         return any((name == "$type" and is_some(it)) or named_types(it) for name, it in value.of)
+    if value.kind == "javascriptWithScope":
+        return named_types(value.of[1])
     return value.kind == "array" and any(map(named_types, value.of))
 
 

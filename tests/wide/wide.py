@@ -294,6 +294,8 @@ def main() -> int:
         (["dump", "-", "--jsonFormat", "Relaxed"], 2, b"", USAGE), (["dump", "-", "--jsonFormat", ""], 2, b"", USAGE),
         (["dump", "-", "--jsonFormat"], 2, b"", USAGE), (["check", "-", "--jsonFormat", "relaxed"], 2, b"", USAGE),
         (["dump", "-", "--jsonFormat", "relaxed", "--jsonFormat", "relaxed"], 2, b"", USAGE),
+        (["serve"], 2, b"", USAGE), (["serve", "-"], 2, b"", USAGE), (["serve", "--", "-"], 2, b"", USAGE), (["serve", "-", "-"], 2, b"", USAGE),
+        (["serve", "absent"], 1, b"", b"bsonwide: cannot open absent\n"), (["serve", "/"], 1, b"", b"bsonwide: cannot read\n"),
         (["mask", "-"], 2, b"", USAGE), (["wrap", "-"], 2, b"", USAGE), (["--version"], 0, VERSION, b""), (["--version", "-"], 2, b"", USAGE),
     ):  # fmt: skip
         got = subprocess.run([PROGRAM, *words], input=b"", capture_output=True, check=False)

@@ -6,7 +6,7 @@ use Rattle.clap.specs.Walk.{Row, Text, first_of}
 use Rattle.clap.proofs.{WalkLemmas.first_value-rows, WalkLemmas.one_text-rows, WalkLemmas.raw_values-rows}
 use Rattle.bd_cli_args.specs.CommandLine.{find_app, find_options_in}
 use Rattle.bd_cli_args.specs.FileCommands.{file_app}
-use Rattle.bd_cli_args.specs.WideLine.{OrderView, wide_commands, check, dump, dump_app, pack, order, line_app, order_app, ordered_by, texts_in}
+use Rattle.bd_cli_args.specs.WideLine.{OrderView, wide_commands, check, dump, dump_app, pack, serve, order, line_app, order_app, ordered_by, texts_in}
 use Rattle.bd_cli_args.proofs.ProgramLemmas.{EachShape, HasOrders, IsProgram, file_given, file_orders, refused, shape_in}
 
 pub is_program : IsProgram line_app ordered_by
@@ -18,7 +18,7 @@ is_program = record {
   requires_one = λ rows c. refused MissingSubcommand c;
   each = (
     of_file (codes "check") check (λ rows. refl),
-    (of_file (codes "pack") pack (λ rows. refl), (finds, (dumps, (orders, tt)))),
+    (of_file (codes "pack") pack (λ rows. refl), (of_file (codes "serve") serve (λ rows. refl), (finds, (dumps, (orders, tt))))),
   );
 }
   where

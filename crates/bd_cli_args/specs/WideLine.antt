@@ -1,6 +1,8 @@
 -- The command lines that `bsonwide` accepts, by the parser's own definition,
 -- and the command that each one means.
-use Rattle.std.specs.Prelude.{List, [], ◌∷◌, false, map, codes, string_bytes, unwrap_or, Option, Some, option_map, option_and_then}
+use Rattle.std.specs.Prelude.{List, [], ◌∷◌, Bool, false, map, codes, string_bytes, unwrap_or, if◌then◌else◌}
+use Rattle.std.specs.{Prelude.Option, Prelude.Some, Prelude.None, Prelude.option_map, Prelude.option_and_then}
+use Rattle.std.specs.{Option.option_map_or, Option.option_or}
 use Rattle.std.specs.Map.{lookup}
 use Rattle.std.specs.Str.{bytes_eq}
 use Rattle.clap.specs.Lexer.{usize_max}
@@ -28,11 +30,11 @@ order_app = with_rule (file_app (codes "order")) paths_rule
 abbrev pub dump_app : App
 dump_app = with_options (file_app (codes "dump")) ((codes "jsonFormat", false) ∷ [])
 
--- the command lines that `bsonwide` accepts: `check` or `pack` with one file,
+-- the command lines that `bsonwide` accepts: `check`, `pack` or `serve` with one file,
 -- `find` or `dump` with one file and its options, and `order` with one file and any paths
 abbrev pub line_app : App
-line_app = with_subcommand
-    (with_subcommand (program_app (codes "bsonwide") (codes "check" ∷ codes "pack" ∷ []) find_app) dump_app.top) order_app.top
+line_app = let files = codes "check" ∷ codes "pack" ∷ codes "serve" ∷ [] in
+    with_subcommand (with_subcommand (program_app (codes "bsonwide") files find_app) dump_app.top) order_app.top
 
 -- a command: the meaning of the arguments, with texts as their bytes
 pub data OrderView : Type 0 where
@@ -40,6 +42,7 @@ pub data OrderView : Type 0 where
   check : Text → OrderView
   pack : Text → OrderView
   find : Text → FindOptions → OrderView
+  serve : Text → OrderView
   order : Text → List Text → OrderView
 
 -- the command that a `WideOrder` in memory represents
@@ -48,6 +51,7 @@ meant (WideOrder.Dump file format) = dump (string_bytes file) (option_map string
 meant (WideOrder.Check file) = check (string_bytes file)
 meant (WideOrder.Pack file) = pack (string_bytes file)
 meant (WideOrder.Find file options) = find (string_bytes file) options
+meant (WideOrder.Serve file) = serve (string_bytes file)
 meant (WideOrder.Order file paths) = order (string_bytes file) (map string_bytes paths.items)
 
 -- the texts of an argument; empty if it is not given
@@ -57,6 +61,7 @@ texts_in name rows = unwrap_or (all_of name rows) []
 -- what each command does with its FILE, by its name
 abbrev pub wide_commands : List Row → List (Text × (Text → OrderView))
 wide_commands rows = (codes "dump", λ file. dump file (first_of (codes "jsonFormat") rows)) ∷ (codes "check", check) ∷ (codes "pack", pack)
+    ∷ (codes "serve", serve)
     ∷ (codes "find", λ file. find file (find_options_in rows))
     ∷ (codes "order", λ file. order file (texts_in (codes "path") rows)) ∷ []
 
@@ -69,6 +74,20 @@ ordered_by name rows =
 abbrev pub order_of : List Text → Option OrderView
 order_of = order_by line_app ordered_by
 
--- how arguments are refused; None if they are accepted
+-- how the parser's refusal of arguments is reported; None if it accepts them
+abbrev pub parser_refusal : List Text → Option WordsFault
+parser_refusal = refusal_by line_app
+
+-- whether the command is `serve -`: the commands come from standard input, so the dump cannot
+abbrev pub is_serve_of_input : OrderView → Bool
+is_serve_of_input (serve file) = bytes_eq file (codes "-")
+is_serve_of_input _ = false
+
+-- whether the arguments, as the parser reads them, mean `serve` of standard input
+abbrev pub serves_input : List Text → Bool
+serves_input words = option_map_or is_serve_of_input (order_of words) false
+
+-- how arguments are refused: as the parser refuses them, or because they mean `serve -`;
+-- None if they are accepted
 abbrev pub fault_for : List Text → Option WordsFault
-fault_for = refusal_by line_app
+fault_for words = option_or (parser_refusal words) (if serves_input words then Some WordsFault.Usage else None)

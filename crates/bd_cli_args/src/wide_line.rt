@@ -5,7 +5,7 @@ ghost use Rattle.clap.specs.Words.{found_of, rows_of, rule_of, takes};
 ghost use Rattle.bd_cli_args.specs.CommandLine.{words_of};
 ghost use Rattle.bd_cli_args.specs.inside.FileCommands.{IsBuiltAs};
 ghost use Rattle.bd_cli_args.specs.declared.order.WordsFault.TheVariants.{NoMemory};
-ghost use Rattle.bd_cli_args.specs.WideLine.{dump_app, fault_for, line_app, meant, order_app, order_of, ordered_by, paths_rule, texts_in};
+ghost use Rattle.bd_cli_args.specs.WideLine.{dump_app, fault_for, is_serve_of_input, line_app, meant, order_app, order_of, ordered_by, parser_refusal, paths_rule, serves_input, texts_in};
 
 use crate::command_line::{find_command, options_of, text_of, with_options};
 use crate::file_commands::{Made, explain_error, of_file, program_command};
@@ -34,6 +34,10 @@ pub enum WideOrder {
         file: String,
         options: FindOptions,
     },
+    /// A session over the dump `file`. `file` is never `-` in accepted arguments: the commands come from standard input.
+    Serve {
+        file: String,
+    },
     /// Numbers as whole numbers in the same order; at these paths by their codes.
     Order {
         file: String,
@@ -43,10 +47,11 @@ pub enum WideOrder {
 
 /// The command that the arguments mean, without the program's name.
 ///
-/// `dump FILE [--jsonFormat FORMAT]`, `check FILE`, `pack FILE` and `order FILE [PATH..]` are accepted, and
+/// `dump FILE [--jsonFormat FORMAT]`, `check FILE`, `pack FILE`, `serve FILE` and `order FILE [PATH..]` are accepted, and
 /// `find FILE [--query Q] [--sort S] [--skip N] [--limit N] [--batch N] [--index PATH] [--after TOKEN]`, N from 0 to
 /// 2,147,483,647, with the options in any order, each at most once, and FILE before or after them. `--skip` and `--limit` are 0
-/// by default. A file or a path whose name looks like a flag comes after `--`.
+/// by default. A file or a path whose name looks like a flag comes after `--`. The file of `serve` is not `-`, since the commands of
+/// a session come from standard input.
 ///
 /// # Errors
 ///
@@ -56,7 +61,30 @@ pub enum WideOrder {
 pub fn parse_wide_words(alloc: Global, words: &[String]) -> Result<WideOrder, WordsFault>
     ensures order { IfOk result (λ o. order_of (words_of words.now) ≡ Some (meant o)) }
     ensures only_taken { IfOk result (λ _. fault_for (words_of words.now) ≡ None) }
+    ensures never_of_input { IfOk result (λ o. is_serve_of_input (meant o) ≡ false) }
     ensures fault { IfErr result (λ f. (f ≡ NoMemory) ⊎ (fault_for (words_of words.now) ≡ Some f)) }
+    ensures taken { takes line_app (words_of words.now) ≡ true →
+        serves_input (words_of words.now) ≡ false → IfErr result (λ f. f ≡ NoMemory) }
+{
+    let order = order_in(alloc, words)?;
+    if orders_serve_of_input(&order) {
+        return Err(WordsFault::Usage);
+    }
+    Ok(order)
+}
+
+fn orders_serve_of_input(order: &WideOrder) -> bool
+    ensures { result ≡ is_serve_of_input (meant order.now) }
+{
+    matches!(order, WideOrder::Serve { file } if file.as_str() == "-")
+}
+
+/// The command of arguments as the parser reads them, including `serve` of standard input.
+fn order_in(alloc: Global, words: &[String]) -> Result<WideOrder, WordsFault>
+    ensures order { IfOk result (λ o. order_of (words_of words.now) ≡ Some (meant o)) }
+    ensures only_taken { IfOk result (λ _. parser_refusal (words_of words.now) ≡ None) }
+    ensures fault { IfErr result (λ f. (f ≡ NoMemory)
+        ⊎ (parser_refusal (words_of words.now) ≡ Some f)) }
     ensures taken { takes line_app (words_of words.now) ≡ true → IfErr result (λ f. f ≡ NoMemory) }
 {
     let command = line_command(alloc)?;
@@ -93,6 +121,7 @@ fn order_named(alloc: Global, name: &str, matches: &ArgMatches<'_>) -> Result<Wi
             let options = options_of(alloc, matches)?;
             Ok(WideOrder::Find { file, options })
         }
+        "serve" => Ok(WideOrder::Serve { file }),
         "order" => {
             let paths = texts_of(alloc, matches, "path")?;
             Ok(WideOrder::Order { file, paths })
@@ -161,4 +190,4 @@ fn paths_argument<'a>(alloc: Global) -> Arg<'a>
 }
 
 /// The commands that take only a file.
-const FILE_COMMANDS: [&str; 2] = ["check", "pack"];
+const FILE_COMMANDS: [&str; 3] = ["check", "pack", "serve"];

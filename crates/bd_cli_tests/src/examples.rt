@@ -127,3 +127,18 @@ fn other_words(rt: HostRuntime) -> Result<(), Fail> {
     assert!(rt; matches!(parse_wide_words(alloc, &version), Err(WordsFault::Usage)));
     Ok(())
 }
+
+/// A session of `bsonwide` has a file, which is not standard input.
+#[test]
+fn wide_session(rt: HostRuntime) -> Result<(), Fail> {
+    let alloc = rt.alloc();
+    let mut words = Vec::new(alloc);
+    words.push(String::from_str(alloc, "serve")?)?;
+    words.push(String::from_str(alloc, "--")?)?;
+    words.push(String::from_str(alloc, "a.bson")?)?;
+    assert!(rt; matches!(parse_wide_words(alloc, &words), Ok(WideOrder::Serve { .. })));
+    words.truncate(2);
+    words.push(String::from_str(alloc, "-")?)?;
+    assert!(rt; matches!(parse_wide_words(alloc, &words), Err(WordsFault::Usage)));
+    Ok(())
+}

@@ -2,7 +2,7 @@
 
 ghost use Rattle.bd_io_device.specs.Devices.{over};
 ghost use Rattle.std.specs.Prelude.{◌≡◌, option_map};
-ghost use Rattle.bd_wide_cli.specs.Command.{RunsCommand, block_size};
+ghost use Rattle.bd_wide_cli.specs.Command.{ReadsNoCommands, RunsCommand, block_size, is_serve};
 ghost use Rattle.bd_wide_cli.specs.Dump.{format_named};
 
 use crate::dump::dump;
@@ -18,6 +18,7 @@ use bd_wide::Order;
 use bd_wide_dump::JsonFormat;
 use bd_wide_find::find::find;
 use bd_wide_pack::WidePacker;
+use bd_wide_service::serve::serve;
 use std::alloc::Global;
 
 /// What is done with the documents of a file, or with its lines.
@@ -31,22 +32,30 @@ pub enum Command {
     Pack,
     /// The documents that these options request, one a line.
     Find(FindOptions),
+    /// A reply to each command of a session.
+    Serve,
     /// Each document with its number, and with whole numbers in the same order.
     Order(Order),
 }
 
 /// Runs a command over a file, and returns the exit status: 0 if all was done, 1 after a fault of the input or of a device, or
 /// if memory runs out. It takes the memory of one document, and of what is written for it; for `Pack` that of all documents, and for
-/// `Find` that of the dump, and of a copy if it has a double or a decimal128.
-pub fn run<R: Input, O: Output, E: Output>(
+/// `Find` and `Serve` that of the dump, and of a copy if it has a double or a decimal128.
+///
+/// The commands of a session are read from `commands`.
+pub fn run<R: Input, C: Input, O: Output, E: Output>(
     alloc: Global,
     command: &Command,
     file: &mut R,
+    commands: &mut C,
     out: &mut O,
     err: &mut E,
 ) -> Status
-    ensures { RunsCommand command.now (over R.state file.old file.new)
-        (over O.state out.old out.new) (over E.state err.old err.new) result }
+    ensures ran { RunsCommand C.state C.read_gives commands.old commands.new command.now
+        (over R.state file.old file.new) (over O.state out.old out.new)
+        (over E.state err.old err.new) result }
+    // An input that is not needed is not read.
+    ensures commands { ReadsNoCommands command.now → commands.new ≡ commands.old }
 {
     match command {
         Command::Check => check_all_types(alloc, PROGRAM, file, out, err),
@@ -56,6 +65,7 @@ pub fn run<R: Input, O: Output, E: Output>(
             pack_by(alloc, PROGRAM, WideLinePacker { packer }, file, out, err)
         }
         Command::Find(options) => find(alloc, PROGRAM, options, file, out, err),
+        Command::Serve => serve(alloc, PROGRAM, file, commands, out, err),
         Command::Order(order) => filter_file(alloc, order, file, out, err),
     }
 }
@@ -66,8 +76,8 @@ pub fn block_size(command: &Command) -> usize
     ensures { result ≡ block_size command.now }
 {
     match command {
-        Command::Check | Command::Dump(_) | Command::Pack | Command::Find(_) => 65_536,
         Command::Order(_) => 16_384,
+        _ => 65_536,
     }
 }
 
@@ -84,4 +94,11 @@ pub fn read_format(word: Option<&str>) -> Result<JsonFormat, WordsFault>
         Some("relaxed") => Ok(JsonFormat::Relaxed),
         Some(_) => Err(WordsFault::Usage),
     }
+}
+
+/// Whether a command is a session, whose commands are read beside the file.
+pub fn is_serve(command: &Command) -> bool
+    ensures { result ≡ is_serve command.now }
+{
+    matches!(command, Command::Serve)
 }

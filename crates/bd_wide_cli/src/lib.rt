@@ -6,12 +6,20 @@
 //!
 //! ```
 //! let mut input = MemoryInput::new(b"\x05\0\0\0\0", 100, None);
+//! let mut commands = MemoryInput::new(b"", 1, None);
 //! let mut buffer = [0; 100];
 //! let mut out = MemoryOutput::new(&mut buffer, 100, None);
 //! let mut reported = [0; 100];
 //! let mut err = MemoryOutput::new(&mut reported, 100, None);
 //! let command = Command::Dump(JsonFormat::Canonical);
-//! let status = run(rt.alloc(), &command, &mut input, &mut out, &mut err);
+//! let status = run(
+//!     alloc,
+//!     &command,
+//!     &mut input,
+//!     &mut commands,
+//!     &mut out,
+//!     &mut err,
+//! );
 //! assert!(rt; status == Status::Done);
 //! assert!(rt; out.bytes() == b"{}\n".as_slice());
 //! ```
@@ -33,6 +41,6 @@ mod pack;
 mod refusal;
 mod running;
 
-pub use command::{Command, block_size, read_format, run};
+pub use command::{Command, block_size, is_serve, read_format, run};
 pub use output::{PROGRAM, report, version};
 pub use running::Stop;

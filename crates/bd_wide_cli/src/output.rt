@@ -48,6 +48,7 @@ const USAGE: &str = "usage: bsonwide dump FILE [--jsonFormat FORMAT]
        bsonwide check FILE
        bsonwide pack FILE
        bsonwide find FILE [--query Q] [--sort S] [--skip N] [--limit N] [--batch N] [--index PATH] [--after TOKEN]
+       bsonwide serve FILE
        bsonwide order FILE [PATH..]
 ";
 

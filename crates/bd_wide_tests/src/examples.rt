@@ -5,7 +5,7 @@ use bd_cli_args::WordsFault;
 use bd_cli_scan::Status;
 use bd_io_device::{MemoryInput, MemoryOutput};
 use bd_wide::{read_order, write_ordered};
-use bd_wide_cli::{Command, report, run, version};
+use bd_wide_cli::{Command, is_serve, report, run, version};
 use bd_wide_dump::{JsonFormat, WideTextBuffer};
 use bd_wide_number::{Number, code_of, whole_of};
 use bd_wide_text::write_double;
@@ -55,29 +55,75 @@ fn all_types(rt: HostRuntime) -> Result<(), Fail> {
 
 #[test]
 fn dumped(rt: HostRuntime) {
+    let alloc = rt.alloc();
     let mut input = MemoryInput::new(b"\x05\0\0\0\0", 100, None);
+    let mut commands = MemoryInput::new(b"", 1, None);
     let mut buffer = [0; 100];
     let mut out = MemoryOutput::new(&mut buffer, 100, None);
     let mut reported = [0; 100];
     let mut err = MemoryOutput::new(&mut reported, 100, None);
     let command = Command::Dump(JsonFormat::Canonical);
-    let status = run(rt.alloc(), &command, &mut input, &mut out, &mut err);
+    let status = run(
+        alloc,
+        &command,
+        &mut input,
+        &mut commands,
+        &mut out,
+        &mut err,
+    );
     assert!(rt; status == Status::Done);
     assert!(rt; out.bytes() == b"{}\n".as_slice());
 }
 
 #[test]
 fn packed(rt: HostRuntime) {
+    let alloc = rt.alloc();
     let mut input = MemoryInput::new(b"{\"d\":1.5}\n", 100, None);
+    let mut commands = MemoryInput::new(b"", 1, None);
     let mut buffer = [0; 100];
     let mut out = MemoryOutput::new(&mut buffer, 100, None);
     let mut reported = [0; 100];
     let mut err = MemoryOutput::new(&mut reported, 100, None);
-    let status = run(rt.alloc(), &Command::Pack, &mut input, &mut out, &mut err);
+    let status = run(
+        alloc,
+        &Command::Pack,
+        &mut input,
+        &mut commands,
+        &mut out,
+        &mut err,
+    );
     assert!(rt; status == Status::Done);
     let bytes = b"\x10\0\0\0\x01d\0\0\0\0\0\0\0\xf8\x3f\0";
     assert!(rt; out.bytes() == bytes.as_slice());
     assert!(rt; err.bytes() == b"1 objects packed\n".as_slice());
+}
+
+/// A session over a dump with a double.
+#[test]
+fn served(rt: HostRuntime) {
+    let alloc = rt.alloc();
+    let bytes = b"\x10\0\0\0\x01d\0\0\0\0\0\0\0\xf8\x3f\0";
+    let mut input = MemoryInput::new(bytes, 100, None);
+    let mut commands = MemoryInput::new(b"{\"explain\":{\"d\":{\"$gt\":1}}}\n", 100, None);
+    let mut buffer = [0; 200];
+    let mut out = MemoryOutput::new(&mut buffer, 200, None);
+    let mut reported = [0; 100];
+    let mut err = MemoryOutput::new(&mut reported, 100, None);
+    let command = Command::Serve;
+    let status = run(
+        alloc,
+        &command,
+        &mut input,
+        &mut commands,
+        &mut out,
+        &mut err,
+    );
+    assert!(rt; status == Status::Done);
+    assert!(rt;
+        out.bytes()
+            .ends_with(b"\"matches\":{\"$numberLong\":\"1\"}}\n")
+    );
+    assert!(rt; is_serve(&command) && !is_serve(&Command::Dump));
 }
 
 /// Out of a dump of two documents, the second cut short: each run of `order` that its devices allow.
@@ -92,11 +138,20 @@ fn ordered_dump(rt: HostRuntime) -> Result<(), Fail> {
         (18, Status::Failed, "bsonwide: cannot write\n"),
     ] {
         let mut input = MemoryInput::new(b"\x05\0\0\0\0\x05\0", 100, None);
+        let mut commands = MemoryInput::new(b"", 1, None);
         let mut buffer = [0; 100];
         let mut out = MemoryOutput::new(&mut buffer[..size], 100, None);
         let mut reported = [0; 100];
         let mut err = MemoryOutput::new(&mut reported, 100, None);
-        assert!(rt; run(alloc, &command, &mut input, &mut out, &mut err) == status);
+        let ran = run(
+            alloc,
+            &command,
+            &mut input,
+            &mut commands,
+            &mut out,
+            &mut err,
+        );
+        assert!(rt; ran == status);
         assert!(rt; numbered.starts_with(out.bytes()) && out.bytes().len() == size.min(19));
         assert!(rt; err.bytes() == message.as_bytes());
     }
@@ -133,6 +188,7 @@ fn reports(rt: HostRuntime) {
        bsonwide check FILE
        bsonwide pack FILE
        bsonwide find FILE [--query Q] [--sort S] [--skip N] [--limit N] [--batch N] [--index PATH] [--after TOKEN]
+       bsonwide serve FILE
        bsonwide order FILE [PATH..]
 ";
     let mut buffer = [0; 400];

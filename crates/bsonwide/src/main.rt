@@ -6,7 +6,7 @@ use bd_cli_main::Program;
 use bd_cli_scan::Status;
 use bd_io_device::{Input, Output};
 use bd_wide::read_order;
-use bd_wide_cli::{Command, PROGRAM, block_size, read_format, version};
+use bd_wide_cli::{Command, PROGRAM, block_size, is_serve, read_format, version};
 use std::alloc::Global;
 use std::process::ExitCode;
 
@@ -33,6 +33,7 @@ impl Program for Bsonwide {
             WideOrder::Check { file } => Ok((Command::Check, file)),
             WideOrder::Pack { file } => Ok((Command::Pack, file)),
             WideOrder::Find { file, options } => Ok((Command::Find(options), file)),
+            WideOrder::Serve { file } => Ok((Command::Serve, file)),
             WideOrder::Order { file, paths } => {
                 Ok((Command::Order(read_order(alloc, &paths)?), file))
             }
@@ -47,8 +48,8 @@ impl Program for Bsonwide {
         block_size(&command.0)
     }
 
-    fn serves(&self, _command: &Self::Command) -> bool {
-        false
+    fn serves(&self, command: &Self::Command) -> bool {
+        is_serve(&command.0)
     }
 
     fn run<F: Input, C: Input, O: Output, E: Output>(
@@ -56,11 +57,11 @@ impl Program for Bsonwide {
         alloc: Global,
         command: &Self::Command,
         file: &mut F,
-        _commands: &mut C,
+        commands: &mut C,
         out: &mut O,
         err: &mut E,
     ) -> Status {
-        bd_wide_cli::run(alloc, &command.0, file, out, err)
+        bd_wide_cli::run(alloc, &command.0, file, commands, out, err)
     }
 
     fn report<O: Output, E: Output>(&self, fault: &WordsFault, out: &mut O, err: &mut E) -> Status {

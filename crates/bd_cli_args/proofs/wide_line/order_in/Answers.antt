@@ -4,7 +4,7 @@ use Rattle.bd_cli_args.specs.WideLine.{line_app, ordered_by}
 use Rattle.bd_cli_args.proofs.WideLineLemmas.{is_program}
 use Rattle.bd_cli_args.proofs.ProgramLemmas.{no_fault, order_read, order_there, refusal_none, refused_as, refused_taken}
 use Rattle.std.proofs.lemmas.Result.{IfOk-weaker}
-use Rattle.bd_cli_args.proofs.wide_line.parse_wide_words.Goals as goal
+use Rattle.bd_cli_args.proofs.wide_line.order_in.Goals as goal
 
 pub returns-in-Err-clause-fault : goal.returns-in-Err-clause-fault
 returns-in-Err-clause-fault c =
