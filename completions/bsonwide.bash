@@ -28,9 +28,19 @@ _bsonwide_options() {
 		--query | --sort | --skip | --limit | --batch | --index | --after | --jsonFormat)
 			option=${COMP_WORDS[at]}
 			options=${options/ $option / }
+			if [[ $option == --batch ]]; then
+				options=${options/ --count / }
+			fi
 			((at += 1))
 			if [[ ${COMP_WORDS[at]} == = ]]; then
 				((at += 1))
+			fi
+			;;
+		--bson | --count)
+			options=${options/ --bson / }
+			options=${options/ --count / }
+			if [[ ${COMP_WORDS[at]} == --count ]]; then
+				options=${options/ --batch / }
 			fi
 			;;
 		--) options='' ;;
@@ -63,7 +73,7 @@ _bsonwide() {
 	fi
 	case $command in
 	dump) options=' --jsonFormat ' ;;
-	find) options=' --query --sort --skip --limit --batch --index --after ' ;;
+	find) options=' --query --sort --skip --limit --batch --index --after --bson --count ' ;;
 	esac
 	if [[ -n $options ]]; then
 		_bsonwide_options "$word" "$options"

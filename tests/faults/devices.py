@@ -149,12 +149,21 @@ BY_VALUE = list(zip(lines(by_value())[::2], lines(by_value())[1::2]))
 # The sessions of the program, each with its dump.
 SESSIONS = [("several.bson", SEVERAL, SESSION), *([("values.bson", VALUES_DUMP, BY_VALUE)] if IS_WIDE else [])]
 
+# What `find` of `bsonwide` prints in place of lines.
+FOUND = counted(5, "end", 4, FIVE_DUMP, sort='{"a":1}').encode()
+FORMS = [
+    Case(f"find {flag}", ["find", FILE, "--sort", '{"a":1}', flag], FIVE_DUMP, Ran(0, out, FOUND))
+    for flag, out in (("--bson", FIVE_DUMP), ("--count", b"5\n"))
+    if IS_WIDE
+]
+
 SMALL = of_program(
     [
         Case("dump", ["dump", FILE], joined(DUMP), Ran(0, shown(DUMP), b"%d objects found\n" % len(DUMP)), partial(dumped, DUMP)),
         Case("check", ["check", FILE], joined(CHECK), Ran(1, shown(CHECK), b"3 documents, %d faulty\n" % (2 - IS_WIDE)), partial(checked, CHECK)),
         Case("pack", ["pack", FILE], joined(PACK), Ran(0, shown(PACK), b"%d objects packed\n" % len(PACK))),
         Case("find", ["find", FILE, "--sort", '{"a":1}', "--index", "a"], FIVE_DUMP, Ran(0, shown(FIVE), counted(5, "end", 4, FIVE_DUMP, sort='{"a":1}').encode())),
+        *FORMS,
         *(Case(f"serve {name}", ["serve", FILE], data, Ran(0, shown(talk), b""), commands=joined(talk)) for name, data, talk in SESSIONS),
         Case("order", ["order", FILE], joined(ORDER), Ran(0, shown(ORDER), b""), partial(ordered, ORDER)),
         Case("order of a bad length", ["order", FILE], joined(ORDER) + REST, Ran(0, shown(ORDER) + REST, b""), passed_on),

@@ -235,6 +235,11 @@ def wide_runs(failing: Failing) -> list[Run]:
         # The numbers are 1 and 1.5, so their codes are 1 and 3, and that of 2 is 4.
         Run("find by value", ["find", "-", "--query", '{"d":{"$gte":1.5}}'], b"".join(numbers), number_lines[1:2], counted(1, "end", 1, CODED, query='{"d":{"$gte":{"$numberLong":"3"}}}')),
         Run("find of the greatest", ["find", "-", "--sort", '{"d":-1}', "--limit", "1"], b"".join(numbers), number_lines[1:2], counted(1, "end", 1, CODED, sort='{"d":-1}', limit=1)),
+        Run("find by value, bytes", ["find", "-", "--query", '{"d":{"$gte":1.5}}', "--bson"], b"".join(numbers), numbers[1:2], counted(1, "end", 1, CODED, query='{"d":{"$gte":{"$numberLong":"3"}}}')),
+        Run("find by value, how many", ["find", "-", "--query", '{"d":{"$gte":1.5}}', "--count"], b"".join(numbers), [b"1\n"], counted(1, "end", 1, CODED, query='{"d":{"$gte":{"$numberLong":"3"}}}')),
+        Run("find, bytes", ["find", "-", "--bson"], FIVE_DUMP, [document for document, _ in FIVE], counted(5, "end", 4, FIVE_DUMP)),
+        Run("find, how many", ["find", "-", "--count"], FIVE_DUMP, [b"5\n"], counted(5, "end", 4, FIVE_DUMP)),
+        Run("find, how many and bytes", ["find", "-", "--count", "--bson"], FIVE_DUMP, [], USAGE, 2),
         Run("find, some types of numbers", ["find", "-", "--query", '{"d":{"$type":"double"}}'], DOUBLE, [], f"{NAME}: query: the types of numbers are not told apart here\n", 1),
         Run("find, a bad number", ["find", "-", "--query", '{"d":{"$numberDouble":"x"}}'], DOUBLE, [], f"{NAME}: query: byte 5: bad wrapper\n", 1),
         Run("find, a bad dump", ["find", "-", "--query", '{"d":1.5}'], DOUBLE + BAD, [], f'{NAME}: document 1, byte 40, path "a.0.1": bad boolean\n', 1),

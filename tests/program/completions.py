@@ -23,6 +23,7 @@ COMPLETIONS = ROOT / "completions"
 COMMANDS = {"dump", "check", "pack", "find", "serve"}
 OF_WIDE = {"dump", "check", "pack", "find", "serve", "order"}
 OPTIONS = {"--query", "--sort", "--skip", "--limit", "--batch", "--index", "--after"}
+WIDE_OPTIONS = OPTIONS | {"--bson", "--count"}
 FORMAT, FORMATS = {"--jsonFormat"}, {"canonical", "relaxed"}
 DUMPS = {"one.bson", "two.bson", "room/"}
 OTHERS = {"lines.jsonl"}
@@ -96,10 +97,18 @@ OF_BSONWIDE: list[Row] = [
             (f"{name} one.bson ", set(), set()),
         )
     ),
-    *OF_FIND,
+    ("find ", DUMPS | {"-"}, WIDE_OPTIONS | OTHERS),
+    ("find -", WIDE_OPTIONS, {"-"}),
+    ("find one.bson --", WIDE_OPTIONS, set()),
+    ("find one.bson --s", {"--sort", "--skip"}, set()),
+    # `--count` goes with neither `--bson` nor `--batch`.
+    ("find one.bson --bson --", WIDE_OPTIONS - {"--bson", "--count"}, set()),
+    ("find one.bson --count --", WIDE_OPTIONS - {"--bson", "--count", "--batch"}, set()),
+    ("find one.bson --batch 3 --", WIDE_OPTIONS - {"--batch", "--count"}, set()),
+    ("find --bson ", DUMPS | {"-"}, WIDE_OPTIONS - {"--bson", "--count"} | OTHERS),
 ]
 ROWS = {"bsonfind": OF_BSONFIND, "bsonwide": OF_BSONWIDE}
-KNOWN = COMMANDS | OF_WIDE | OPTIONS | FORMAT | FORMATS | DUMPS | OTHERS | HELP | {"-"}
+KNOWN = COMMANDS | OF_WIDE | WIDE_OPTIONS | FORMAT | FORMATS | DUMPS | OTHERS | HELP | {"-"}
 PROMPT = "ready> "
 
 

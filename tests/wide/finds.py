@@ -1,10 +1,12 @@
 #!/usr/bin/env python3
-"""Compares `bsonwide find` over random dumps of all types with a model: whole answers, by an index, by pages, and over damaged dumps.
+"""Compares `bsonwide find` over random dumps of all types with a model: whole answers, by an index, by pages, and over damaged dumps; as
+lines, as bytes, and how many.
 
     tests/wide/finds.py [PROGRAM [DUMPS [SEED]]]
 
 The program is `bsonwide`. The model compares all numbers exactly, as MongoDB does. What is found must be the lines of `bsonwide dump` at
-the places of the model's answer. A query is refused for its types only where it names some of the four types of numbers.
+the places of the model's answer, with `--bson` the bytes of the dump at these places, and with `--count` how many they are; standard error
+and the status stay. A query is refused for its types only where it names some of the four types of numbers.
 """
 
 import random
@@ -18,7 +20,7 @@ sys.path[:0] = [str(Path(__file__).resolve().parents[1]), str(Path(__file__).res
 
 from model.answers import BadFilter, Dump, Request, Value, check_filter, path_fault, sort_pairs
 from support import PROGRAM as BUILT
-from support import Tests
+from support import Tests, usage_of
 from questions import WideInputs
 
 PROGRAM = str(Path(sys.argv[1]).resolve()) if len(sys.argv) > 1 else str(BUILT.with_name("bsonwide"))
@@ -27,6 +29,7 @@ SEED = int(sys.argv[3]) if len(sys.argv) > 3 else 75
 REQUESTS = 20
 
 TYPES = "bsonwide: query: the types of numbers are not told apart here\n"
+USAGE = usage_of("bsonwide")
 COUNTS = re.compile(r"([0-9]+) documents, (end|more)(?:, token (\S+))?\n")
 NUMBERS = {"double": 1, "int": 16, "long": 18, "decimal": 19}
 
@@ -46,6 +49,16 @@ def is_some(operand: Value) -> bool:
     return 0 < len(found) < 4
 
 
+def documents_of(dump: bytes) -> list[bytes]:
+    """The bytes of each document: the first four of each are its length."""
+    found, at = [], 0
+    while at < len(dump):
+        end = at + int.from_bytes(dump[at : at + 4], "little")
+        found.append(dump[at:end])
+        at = end
+    return found
+
+
 class Finding:
     """The comparison of one dump after the other with the model."""
 
@@ -56,8 +69,13 @@ class Finding:
 
     def run(self, *words: str) -> tuple[int, list[str], str]:
         """The status, the lines of standard output, and standard error."""
+        status, out, said = self.run_bytes(*words)
+        return status, out.decode().splitlines(keepends=True), said
+
+    def run_bytes(self, *words: str) -> tuple[int, bytes, str]:
+        """The same, with standard output as bytes."""
         ran = subprocess.run([PROGRAM, *words], cwd=self.room, capture_output=True, check=False, timeout=60)
-        return ran.returncode, ran.stdout.decode().splitlines(keepends=True), ran.stderr.decode()
+        return ran.returncode, ran.stdout, ran.stderr.decode()
 
     def find_in_dump(self, number: int) -> None:
         """Asks one dump many times, and once when it is damaged."""
@@ -85,18 +103,32 @@ class Finding:
             is_good = False
         if not is_good:
             self.tests.want(name, (status, found) == (1, []) and said.startswith("bsonwide: ") and said.count("\n") == 1, (status, said))
+            self.forms(name, words, (status, said), b"", b"")
         elif said == TYPES:
             self.refused += 1
             self.tests.want(name, (status, found) == (1, []) and named_types(query), status)
+            self.forms(name, words, (status, said), b"", b"")
         else:
-            wanted = [lines[place] for place in model.answer(request)]
+            places = model.answer(request)
+            wanted = [lines[place] for place in places]
             counts = COUNTS.fullmatch(said)
             self.tests.want(name, status == 0 and found == wanted and counts is not None and counts[1] == str(len(wanted)), (status, said, found, wanted))
+            documents = documents_of(model.bytes)
+            self.forms(name, words, (status, said), b"".join(documents[place] for place in places), f"{len(places)}\n".encode())
             self.pages(name, words, wanted)
+
+    def forms(self, name: str, words: list[str], ended: tuple[int, str], dump: bytes, count: bytes) -> None:
+        """With a flag standard output is another, and the status and standard error are the same."""
+        for flag, wanted in (("--bson", dump), ("--count", count)):
+            status, found, said = self.run_bytes("find", "dump.bson", *words, flag)
+            self.tests.want(f"{name}, {flag}", found == wanted and (status, said) == ended, (status, said, found, wanted))
 
     def pages(self, name: str, words: list[str], wanted: list[str]) -> None:
         """The pages of an answer, joined, are the answer."""
         size, joined, token, more = self.rng.randrange(1, 4), [], [], "more"
+        if self.rng.random() < 0.5:
+            ran = self.run_bytes("find", "dump.bson", *words, "--batch", str(size), "--count")
+            self.tests.want(f"{name}: a page has no count", ran == (2, b"", USAGE), ran)
         while more == "more":
             status, found, said = self.run("find", "dump.bson", *words, "--batch", str(size), *token)
             counts = COUNTS.fullmatch(said)

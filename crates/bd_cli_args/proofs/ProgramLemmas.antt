@@ -141,10 +141,15 @@ module _ {V : Type 0} (line : App) (ordered : Text → List Row → Option V) wh
   pub no_fault : IsProgram → (a : App) (words : List Text) → a ≡ line → (is_simple_and_free a ≡ true → fault_of a words ≡ []) → fault_of line words ≡ []
   no_fault p a words is h = subst (λ (x : App). is_simple_and_free x ≡ true → fault_of x words ≡ []) is h p.free
 
-  -- the name and the rows that the code reads determine the command
+  -- the name and the rows that the code reads are those of the arguments
+  pub rows_read : IsProgram → (a : App) (words : List Text) (m inner : ArgMatches) (name : Text) → a ≡ line → HasMatchesOf a words m → Some name ≡ subcommand_name_of m
+      → Some (rows_of (found_of inner)) ≡ option_map (λ p. p.1) (subcommand_rows_of m) → subcommand_of line words ≡ Some (name, rows_of (found_of inner))
+  rows_read p a words m inner name is has named rows =
+      let sub : subcommand_rows_of m ≡ subcommand_of line words = (subst (λ (x : App). HasMatchesOf x words m) is has p.simple).1 in
+      sym sub ∙ pair_read (subcommand_rows_of m) name (rows_of (found_of inner)) (named ∙ names_read (out-ArgMatches m).subcommand) rows
+
+  -- they determine the command
   pub order_read : IsProgram → (a : App) (words : List Text) (m inner : ArgMatches) (name : Text) → a ≡ line → HasMatchesOf a words m → Some name ≡ subcommand_name_of m
       → Some (rows_of (found_of inner)) ≡ option_map (λ p. p.1) (subcommand_rows_of m) → order_by line ordered words ≡ ordered name (rows_of (found_of inner))
   order_read p a words m inner name is has named rows =
-      let sub : subcommand_rows_of m ≡ subcommand_of line words = (subst (λ (x : App). HasMatchesOf x words m) is has p.simple).1 in
-      ap (option_and_then (λ p. ordered p.0 p.1))
-      (sym sub ∙ pair_read (subcommand_rows_of m) name (rows_of (found_of inner)) (named ∙ names_read (out-ArgMatches m).subcommand) rows)
+      ap (option_and_then (λ p. ordered p.0 p.1)) (rows_read p a words m inner name is has named rows)

@@ -1,12 +1,15 @@
 -- Accepted command lines of `bsonwide` have a command.
-use Rattle.std.proofs.Common.{◌≡◌, refl, List, codes, Option, Some, None, option_and_then, option_map}
-use Rattle.std.specs.{Map.lookup, Str.bytes_eq}
+use Rattle.std.proofs.Common.{◌≡◌, ◌⊎◌, inl, inr, refl, ap, ap₂, ◌∙◌, Bool, false, List, codes, Option, Some, None, is_some, option_and_then, option_map, if◌then◌else◌}
+use Rattle.std.specs.{Map.lookup, Option.option_map_or, Option.option_or, Str.bytes_eq}
+use Rattle.clap.specs.Simple.{subcommand_of}
 use Rattle.clap.specs.declared.error.kind.ErrorKind.TheVariants.{MissingSubcommand}
 use Rattle.clap.specs.Walk.{Row, Text, first_of}
 use Rattle.clap.proofs.{WalkLemmas.first_value-rows, WalkLemmas.one_text-rows, WalkLemmas.raw_values-rows}
-use Rattle.bd_cli_args.specs.CommandLine.{find_app, find_options_in}
-use Rattle.bd_cli_args.specs.FileCommands.{file_app}
-use Rattle.bd_cli_args.specs.WideLine.{OrderView, wide_commands, check, dump, dump_app, pack, serve, order, line_app, order_app, ordered_by, texts_in}
+use Rattle.bd_cli_args.specs.CommandLine.{find_options_in}
+use Rattle.bd_cli_args.specs.FileCommands.{file_app, refusal_by}
+use Rattle.bd_cli_args.specs.declared.order.WordsFault.{WordsFault}
+use Rattle.bd_cli_args.specs.declared.order.WordsFault.TheVariants.{NoMemory, Usage}
+use Rattle.bd_cli_args.specs.WideLine.{OrderView, wide_commands, check, counts_more, counts_more_in, dump, dump_app, pack, parser_refusal, serve, order, find_app, form_in, line_app, order_app, ordered_by, texts_in}
 use Rattle.bd_cli_args.proofs.ProgramLemmas.{EachShape, HasOrders, IsProgram, file_given, file_orders, refused, shape_in}
 
 pub is_program : IsProgram line_app ordered_by
@@ -26,7 +29,7 @@ is_program = record {
     of_file name says is = file_orders line_app ordered_by (shape_in line_app (file_app name)) (λ rows. says) refl (λ rows c. file_given _ _ c) is
 
     finds : HasOrders line_app ordered_by (shape_in line_app find_app)
-    finds = file_orders line_app ordered_by (shape_in line_app find_app) (λ rows file. OrderView.find file (find_options_in rows)) refl (λ rows c. file_given _ _ c) (λ rows. refl)
+    finds = file_orders line_app ordered_by (shape_in line_app find_app) (λ rows file. OrderView.find file (find_options_in rows) (form_in rows)) refl (λ rows c. file_given _ _ c) (λ rows. refl)
 
     dumps : HasOrders line_app ordered_by (shape_in line_app dump_app)
     dumps = file_orders line_app ordered_by (shape_in line_app dump_app) (λ rows file. dump file (first_of (codes "jsonFormat") rows)) refl (λ rows c. file_given _ _ c) (λ rows. refl)
@@ -45,3 +48,25 @@ no_order (Some says) = refl
 -- without FILE there is no command
 pub no_file : (name : Text) (rows : List Row) → first_of (codes "file") rows ≡ None → ordered_by name rows ≡ None
 no_file name rows e = rw e (no_order (lookup (bytes_eq name) (wide_commands rows)))
+
+pub some_mapped : {X Y : Type 0} (f : X → Y) (o : Option X) → is_some (option_map f o) ≡ is_some o
+some_mapped f None = refl
+some_mapped f (Some x) = refl
+
+-- ---- how arguments are refused
+
+-- by the parser's refusal, and by whether they have more beside `--count`
+pub explained_by : (words : List Text) (refusal : Option WordsFault) (more : Bool) → refusal_by line_app words ≡ refusal → counts_more_in words ≡ more
+    → parser_refusal words ≡ option_or refusal (if more then Some Usage else None)
+explained_by words refusal more refused counts =
+    ap₂ (λ (r : Option WordsFault) (b : Bool). option_or r (if b then Some Usage else None)) refused counts
+
+-- what the parser refuses is refused
+pub refused_too : (words : List Text) (f : WordsFault) → (f ≡ NoMemory) ⊎ (refusal_by line_app words ≡ Some f)
+    → (f ≡ NoMemory) ⊎ (parser_refusal words ≡ Some f)
+refused_too words f (inl memory) = inl memory
+refused_too words f (inr refused) = inr (explained_by words (Some f) (counts_more_in words) refused refl)
+
+pub counted_by : (words : List Text) (name : Text) (rows : List Row) (more : Bool) → subcommand_of line_app words ≡ Some (name, rows) → counts_more rows ≡ more
+    → counts_more_in words ≡ more
+counted_by words name rows more is e = ap (λ o. option_map_or (λ (p : Text × List Row). counts_more p.1) o false) is ∙ e

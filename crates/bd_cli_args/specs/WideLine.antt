@@ -1,19 +1,17 @@
 -- The command lines that `bsonwide` accepts, by the parser's own definition,
 -- and the command that each one means.
-use Rattle.std.specs.Prelude.{List, [], ◌∷◌, Bool, false, map, codes, string_bytes, unwrap_or, if◌then◌else◌}
-use Rattle.std.specs.{Prelude.Option, Prelude.Some, Prelude.None, Prelude.option_map, Prelude.option_and_then}
-use Rattle.std.specs.{Option.option_map_or, Option.option_or}
-use Rattle.std.specs.Map.{lookup}
+use Rattle.std.specs.Prelude.{List, [], ◌∷◌, ◌&&◌, ◌||◌, Bool, false, if◌then◌else◌, is_some, map, codes, string_bytes, unwrap_or, Option, Some, None}
+use Rattle.std.specs.{Prelude.option_map, Prelude.option_and_then, Option.option_map_or, Option.option_or, Map.lookup}
 use Rattle.std.specs.Str.{bytes_eq}
 use Rattle.clap.specs.Lexer.{usize_max}
-use Rattle.clap.specs.Simple.{App, new_rule, with_rule, with_subcommand}
+use Rattle.clap.specs.Simple.{App, new_rule, subcommand_of, with_rule, with_subcommand}
 use Rattle.clap.specs.Walk.{Row, Rule, Text, all_of, first_of}
 use Rattle.clap.specs.declared.builder.action.ArgAction.{ArgAction}
-use Rattle.bd_cli_args.specs.CommandLine.{find_app, find_options_in, with_options}
+use Rattle.bd_cli_args.specs.CommandLine.{find_app as options_app, find_options_in, with_options}
 use Rattle.bd_cli_args.specs.FileCommands.{file_app, order_by, program_app, refusal_by}
 use Rattle.bd_cli_args.specs.FindOptions.{FindOptions}
 use Rattle.bd_cli_args.specs.declared.order.WordsFault.{WordsFault}
-use Rattle.bd_cli_args.specs.declared.wide_line.WideOrder.{WideOrder}
+use Rattle.bd_cli_args.specs.declared.wide_line.{Form.Form, WideOrder.WideOrder}
 
 -- the argument PATH, which may be given any number of times
 abbrev pub paths_rule : Rule
@@ -30,8 +28,16 @@ order_app = with_rule (file_app (codes "order")) paths_rule
 abbrev pub dump_app : App
 dump_app = with_options (file_app (codes "dump")) ((codes "jsonFormat", false) ∷ [])
 
--- the command lines that `bsonwide` accepts: `check`, `pack` or `serve` with one file,
--- `find` or `dump` with one file and its options, and `order` with one file and any paths
+-- a flag `--name` of `find`
+abbrev pub flag_rule : Text → Rule
+flag_rule name = record (new_rule name) { long = Some name; action = Some ArgAction.SetTrue }
+
+-- `find` with its file, the options of `bsonfind`, and two flags
+abbrev pub find_app : App
+find_app = with_rule (with_rule options_app (flag_rule (codes "count"))) (flag_rule (codes "bson"))
+
+-- the command lines that the parser of `bsonwide` accepts: `check`, `pack` or `serve` with one file, `dump` with one file and its
+-- option, `find` with one file, its options and its flags, and `order` with one file and any paths
 abbrev pub line_app : App
 line_app = let files = codes "check" ∷ codes "pack" ∷ codes "serve" ∷ [] in
     with_subcommand (with_subcommand (program_app (codes "bsonwide") files find_app) dump_app.top) order_app.top
@@ -41,7 +47,7 @@ pub data OrderView : Type 0 where
   dump : Text → Option Text → OrderView
   check : Text → OrderView
   pack : Text → OrderView
-  find : Text → FindOptions → OrderView
+  find : Text → FindOptions → Form → OrderView
   serve : Text → OrderView
   order : Text → List Text → OrderView
 
@@ -50,7 +56,7 @@ abbrev pub meant : WideOrder → OrderView
 meant (WideOrder.Dump file format) = dump (string_bytes file) (option_map string_bytes format)
 meant (WideOrder.Check file) = check (string_bytes file)
 meant (WideOrder.Pack file) = pack (string_bytes file)
-meant (WideOrder.Find file options) = find (string_bytes file) options
+meant (WideOrder.Find file options form) = find (string_bytes file) options form
 meant (WideOrder.Serve file) = serve (string_bytes file)
 meant (WideOrder.Order file paths) = order (string_bytes file) (map string_bytes paths.items)
 
@@ -58,11 +64,22 @@ meant (WideOrder.Order file paths) = order (string_bytes file) (map string_bytes
 abbrev pub texts_in : Text → List Row → List Text
 texts_in name rows = unwrap_or (all_of name rows) []
 
+-- whether a flag is given
+abbrev pub flag_in : Text → List Row → Bool
+flag_in name rows = option_map_or (λ text. bytes_eq text (codes "true")) (first_of name rows) false
+
+-- what the flags of `find` request; without one, lines
+abbrev pub form_in : List Row → Form
+form_in rows = if flag_in (codes "count") rows then Form.Count else (if flag_in (codes "bson") rows then Form.Bson else Form.Lines)
+
+-- whether `--count` is given, and `--bson` or `--batch` beside it
+abbrev pub counts_more : List Row → Bool
+counts_more rows = flag_in (codes "count") rows && (flag_in (codes "bson") rows || is_some (first_of (codes "batch") rows))
+
 -- what each command does with its FILE, by its name
 abbrev pub wide_commands : List Row → List (Text × (Text → OrderView))
 wide_commands rows = (codes "dump", λ file. dump file (first_of (codes "jsonFormat") rows)) ∷ (codes "check", check) ∷ (codes "pack", pack)
-    ∷ (codes "serve", serve)
-    ∷ (codes "find", λ file. find file (find_options_in rows))
+    ∷ (codes "serve", serve) ∷ (codes "find", λ file. find file (find_options_in rows) (form_in rows))
     ∷ (codes "order", λ file. order file (texts_in (codes "path") rows)) ∷ []
 
 -- the command that a name and its parsed arguments mean
@@ -70,13 +87,17 @@ abbrev pub ordered_by : Text → List Row → Option OrderView
 ordered_by name rows =
     option_and_then (λ says. option_map says (first_of (codes "file") rows)) (lookup (bytes_eq name) (wide_commands rows))
 
--- the command that arguments mean; None if they are refused
+-- the command that arguments mean; None if the parser refuses them
 abbrev pub order_of : List Text → Option OrderView
 order_of = order_by line_app ordered_by
 
--- how the parser's refusal of arguments is reported; None if it accepts them
+-- whether the arguments, as the parser reads them, have `--count`, and `--bson` or `--batch` beside it
+abbrev pub counts_more_in : List Text → Bool
+counts_more_in words = option_map_or (λ p. counts_more p.1) (subcommand_of line_app words) false
+
+-- how arguments are refused as the parser refuses them, or because they have more beside `--count`; None if they are not
 abbrev pub parser_refusal : List Text → Option WordsFault
-parser_refusal = refusal_by line_app
+parser_refusal words = option_or (refusal_by line_app words) (if counts_more_in words then Some WordsFault.Usage else None)
 
 -- whether the command is `serve -`: the commands come from standard input, so the dump cannot
 abbrev pub is_serve_of_input : OrderView → Bool
@@ -87,7 +108,7 @@ is_serve_of_input _ = false
 abbrev pub serves_input : List Text → Bool
 serves_input words = option_map_or is_serve_of_input (order_of words) false
 
--- how arguments are refused: as the parser refuses them, or because they mean `serve -`;
+-- how arguments are refused: by the parser, for more beside `--count`, or because they mean `serve -`;
 -- None if they are accepted
 abbrev pub fault_for : List Text → Option WordsFault
 fault_for words = option_or (parser_refusal words) (if serves_input words then Some WordsFault.Usage else None)

@@ -16,7 +16,7 @@
 //!
 //! - `order`: `Order`, the command, and `WordsFault`, why there is none.
 //! - `command_line`: `parse_words`, by `clap`.
-//! - `wide_line`: `parse_wide_words` and `WideOrder`, the same for `bsonwide`.
+//! - `wide_line`: `parse_wide_words` and `WideOrder`, the same for `bsonwide`, and `Form`, what its `find` prints.
 //! - `file_commands`: what both command lines share: `specs/FileCommands.antt`.
 #![tactic(auto)]
 
@@ -27,4 +27,4 @@ mod wide_line;
 
 pub use command_line::{USAGE, parse_words};
 pub use order::{FindOptions, Order, WordsFault};
-pub use wide_line::{WideOrder, parse_wide_words};
+pub use wide_line::{Form, WideOrder, parse_wide_words};

@@ -5,7 +5,7 @@ ghost use Rattle.clap.specs.Words.{found_of, rows_of, rule_of, takes};
 ghost use Rattle.bd_cli_args.specs.CommandLine.{words_of};
 ghost use Rattle.bd_cli_args.specs.inside.FileCommands.{IsBuiltAs};
 ghost use Rattle.bd_cli_args.specs.declared.order.WordsFault.TheVariants.{NoMemory};
-ghost use Rattle.bd_cli_args.specs.WideLine.{dump_app, fault_for, is_serve_of_input, line_app, meant, order_app, order_of, ordered_by, parser_refusal, paths_rule, serves_input, texts_in};
+ghost use Rattle.bd_cli_args.specs.WideLine.{counts_more, counts_more_in, dump_app, fault_for, find_app, flag_in, flag_rule, form_in, is_serve_of_input, line_app, meant, order_app, order_of, ordered_by, parser_refusal, paths_rule, serves_input, texts_in};
 
 use crate::command_line::{find_command, options_of, text_of, with_options};
 use crate::file_commands::{Made, explain_error, of_file, program_command};
@@ -29,10 +29,11 @@ pub enum WideOrder {
     Pack {
         file: String,
     },
-    /// The documents that the options select.
+    /// The documents that the options select, in this form.
     Find {
         file: String,
         options: FindOptions,
+        form: Form,
     },
     /// A session over the dump `file`. `file` is never `-` in accepted arguments: the commands come from standard input.
     Serve {
@@ -45,13 +46,24 @@ pub enum WideOrder {
     },
 }
 
+/// What `find` prints of the documents that it finds.
+#[derive(Debug, Clone, Copy, Drop, PartialEq)]
+pub enum Form {
+    /// Their canonical Extended JSON, one a line.
+    Lines,
+    /// Their bytes.
+    Bson,
+    /// How many they are.
+    Count,
+}
+
 /// The command that the arguments mean, without the program's name.
 ///
 /// `dump FILE [--jsonFormat FORMAT]`, `check FILE`, `pack FILE`, `serve FILE` and `order FILE [PATH..]` are accepted, and
-/// `find FILE [--query Q] [--sort S] [--skip N] [--limit N] [--batch N] [--index PATH] [--after TOKEN]`, N from 0 to
-/// 2,147,483,647, with the options in any order, each at most once, and FILE before or after them. `--skip` and `--limit` are 0
-/// by default. A file or a path whose name looks like a flag comes after `--`. The file of `serve` is not `-`, since the commands of
-/// a session come from standard input.
+/// `find FILE [--query Q] [--sort S] [--skip N] [--limit N] [--batch N] [--index PATH] [--after TOKEN] [--bson | --count]`, N from 0
+/// to 2,147,483,647, with the options in any order, each at most once, and FILE before or after them. `--skip` and `--limit` are 0
+/// by default. `--count` takes neither `--batch` nor `--bson` beside it. A file or a path whose name looks like a flag comes after
+/// `--`. The file of `serve` is not `-`, since the commands of a session come from standard input.
 ///
 /// # Errors
 ///
@@ -64,7 +76,8 @@ pub fn parse_wide_words(alloc: Global, words: &[String]) -> Result<WideOrder, Wo
     ensures never_of_input { IfOk result (λ o. is_serve_of_input (meant o) ≡ false) }
     ensures fault { IfErr result (λ f. (f ≡ NoMemory) ⊎ (fault_for (words_of words.now) ≡ Some f)) }
     ensures taken { takes line_app (words_of words.now) ≡ true →
-        serves_input (words_of words.now) ≡ false → IfErr result (λ f. f ≡ NoMemory) }
+        counts_more_in (words_of words.now) ≡ false → serves_input (words_of words.now) ≡ false →
+        IfErr result (λ f. f ≡ NoMemory) }
 {
     let order = order_in(alloc, words)?;
     if orders_serve_of_input(&order) {
@@ -85,7 +98,8 @@ fn order_in(alloc: Global, words: &[String]) -> Result<WideOrder, WordsFault>
     ensures only_taken { IfOk result (λ _. parser_refusal (words_of words.now) ≡ None) }
     ensures fault { IfErr result (λ f. (f ≡ NoMemory)
         ⊎ (parser_refusal (words_of words.now) ≡ Some f)) }
-    ensures taken { takes line_app (words_of words.now) ≡ true → IfErr result (λ f. f ≡ NoMemory) }
+    ensures taken { takes line_app (words_of words.now) ≡ true →
+        counts_more_in (words_of words.now) ≡ false → IfErr result (λ f. f ≡ NoMemory) }
 {
     let command = line_command(alloc)?;
     let matches = match command.try_get_matches_from(words) {
@@ -95,7 +109,38 @@ fn order_in(alloc: Global, words: &[String]) -> Result<WideOrder, WordsFault>
     let Some((name, inner)) = matches.subcommand() else {
         unreachable!()
     };
+    if counts_more(inner) {
+        return Err(WordsFault::Usage);
+    }
     order_named(alloc, name, inner)
+}
+
+/// Whether `--count` is given, and `--bson` or `--batch` beside it.
+fn counts_more(matches: &ArgMatches<'_>) -> bool
+    ensures { result ≡ counts_more (rows_of (found_of matches.now)) }
+{
+    is_set(matches, "count") && (is_set(matches, "bson") || matches.get_str("batch").is_some())
+}
+
+/// Whether a flag is given.
+#[tactic(auto, using(crate::proofs::WideLineLemmas::readings))]
+fn is_set(matches: &ArgMatches<'_>, name: &str) -> bool
+    ensures { result ≡ flag_in name.now (rows_of (found_of matches.now)) }
+{
+    matches.get_str(name).is_some_and(|text| text == "true")
+}
+
+/// The form that the flags request.
+fn form_of(matches: &ArgMatches<'_>) -> Form
+    ensures { result ≡ form_in (rows_of (found_of matches.now)) }
+{
+    if is_set(matches, "count") {
+        Form::Count
+    } else if is_set(matches, "bson") {
+        Form::Bson
+    } else {
+        Form::Lines
+    }
 }
 
 /// The command `name` with these matches.
@@ -119,7 +164,12 @@ fn order_named(alloc: Global, name: &str, matches: &ArgMatches<'_>) -> Result<Wi
         "pack" => Ok(WideOrder::Pack { file }),
         "find" => {
             let options = options_of(alloc, matches)?;
-            Ok(WideOrder::Find { file, options })
+            let form = form_of(matches);
+            Ok(WideOrder::Find {
+                file,
+                options,
+                form,
+            })
         }
         "serve" => Ok(WideOrder::Serve { file }),
         "order" => {
@@ -162,7 +212,7 @@ fn copied(alloc: Global, texts: &[&str]) -> Result<Vec<String>, WordsFault>
 fn line_command<'a>(alloc: Global) -> Made<'a>
     ensures { IfOk result (IsBuiltAs line_app) }
 {
-    let line = program_command(alloc, "bsonwide", &FILE_COMMANDS, find_command(alloc)?)?;
+    let line = program_command(alloc, "bsonwide", &FILE_COMMANDS, flagged_command(alloc)?)?;
     let line = line.subcommand(dump_command(alloc)?)?;
     line.subcommand(order_command(alloc)?)
 }
@@ -172,6 +222,20 @@ fn dump_command<'a>(alloc: Global) -> Made<'a>
     ensures { IfOk result (IsBuiltAs dump_app) }
 {
     with_options(alloc, of_file(alloc, "dump")?, &[("jsonFormat", false)])
+}
+
+/// The command `find` with all its options and flags.
+fn flagged_command<'a>(alloc: Global) -> Made<'a>
+    ensures { IfOk result (IsBuiltAs find_app) }
+{
+    let command = find_command(alloc)?.arg(flag_argument(alloc, "count"))?;
+    command.arg(flag_argument(alloc, "bson"))
+}
+
+fn flag_argument<'a>(alloc: Global, name: &'a str) -> Arg<'a>
+    ensures { (rule_of result ≡ flag_rule name.entry.now) × (result.global ≡ false) }
+{
+    Arg::new(alloc, name).long(name).action(ArgAction::SetTrue)
 }
 
 /// The command that takes paths after its file.

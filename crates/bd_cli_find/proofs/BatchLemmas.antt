@@ -13,11 +13,11 @@ use Rattle.bd_cursor_model.specs.Session.{token_after, token_place, with_open}
 use Rattle.bd_cursor_model.proofs.{AnswerLemmas.ordered_in, OrderLemmas.in_at}
 use Rattle.bd_bson_check.specs.Dump.{AreJoined}
 use Rattle.bd_bson_check.proofs.DumpLemmas.{document_frame, frame_inside}
-use Rattle.bd_cursor.specs.SessionView.{IsRefusedCall, Steps, position_of, positioned_token, state_of}
+use Rattle.bd_cursor.specs.SessionView.{IsRefusedCall, Steps, given_batch, position_of, positioned_token, state_of}
 use Rattle.bd_cursor.specs.declared.session.Session.{Session}
-use Rattle.bd_cursor_request.specs.{Refused.plain, Refused.reason_of, declared.results.Refused.Refused, declared.token.Token.Token}
+use Rattle.bd_cursor_request.specs.{Refused.plain, Refused.reason_of, declared.results.Batch.Batch, declared.results.Refused.Refused, declared.token.Token.Token}
 use Rattle.bd_cli_find.specs.Find.{remaining_over, cursor_for, places_from}
-use Rattle.bd_cli_find.specs.inside.Find.{AwaitsFirst, IsOpenedOn, IsReady, before_first}
+use Rattle.bd_cli_find.specs.inside.Find.{AwaitsFirst, IsBatchOf, IsFirstBatch, IsOpenedOn, IsReady, before_first}
 use Rattle.bd_cli_find.specs.Options.{fits_batch}
 use Rattle.bd_cursor_request.specs.declared.results.Refused.TheVariants as reasons
 
@@ -182,12 +182,6 @@ given_is s id n c size b most fits there r =
 pub taken_inside : (count n : ℕ) (ps xs : List ℕ) → All (λ p. p < count) ps → xs ≡ take n ps → All (λ p. p < count) xs
 taken_inside count n ps xs inside same = subst (All (λ p. p < count)) (sym same) (All-take (λ p. p < count) n ps inside)
 
--- what a session returns is the first batch of the cursor
-pub record IsBatchOf (size : Option ℕ) (c : OpenCursor) (b : GivenBatch) : Type 0 where
-  pub places : b.places ≡ at_most size c.remaining
-  pub ends : b.ends ≡ is_empty (remaining_over size c.remaining)
-  pub token : b.token ≡ token_after c.digest c.token (at_most size c.remaining)
-
 pub batch_given : (s : State) (id n : ℕ) (count : ℕ) (size : Option ℕ) (b : GivenBatch) → IsReady s id count → IsMost size n → fits_batch size ≡ true
     → reply s (next_call id n) ≡ gave b → (c : OpenCursor) → cursor_of id s.cursors ≡ Some c → IsBatchOf size c b
 batch_given s id n count size b ready most fits r c there =
@@ -200,3 +194,15 @@ batch_given s id n count size b ready most fits r c there =
       ends = ap (λ (x : GivenBatch). x.ends) is ∙ ap is_empty (remaining_is size n c.remaining most few);
       token = ap (λ (x : GivenBatch). x.token) is ∙ ap (token_after c.digest c.token) places;
     }
+
+-- the documents of a first batch have the property that those of the dump have
+module _ (Has : ℕ → Type 0) (q : Query) (token : Option Token) (has : (place : ℕ) → place < q.selection.count → Has place) where
+  all_have : (ps : List ℕ) → All (λ p. p < q.selection.count) ps → All Has ps
+  all_have ps inside = λ i d lt. has (get_or ps i d) (inside i d lt)
+
+  limited_have : (size : Option ℕ) (ps : List ℕ) → All (λ p. p < q.selection.count) ps → All Has (at_most size ps)
+  limited_have None ps inside = all_have ps inside
+  limited_have (Some k) ps inside = all_have (take k ps) (All-take (λ p. p < q.selection.count) k ps inside)
+
+  pub batch_has : (size : Option ℕ) (batch : Batch) → IsFirstBatch size q token (Ok batch) → All Has (given_batch batch).places
+  batch_has size batch (ps, led, is) = subst (All Has) (sym is.places) (limited_have size ps (led_few q token ps led).0)

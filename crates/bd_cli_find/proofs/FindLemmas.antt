@@ -16,9 +16,9 @@ use Rattle.bd_cli_args.specs.FindOptions.{FindOptions}
 use Rattle.bd_cursor_request.specs.{Request.Request, declared.token.Token.Token, declared.results.Refused.Refused, Refused.IsRefusedPart, Refused.Reason, Refused.reason_of, Refused.refused_words}
 use Rattle.bd_cli_find.specs.Options.{refused_text}
 use Rattle.bd_cli_find.specs.Options.{requested_by}
-use Rattle.bd_cli_find.specs.Find.{AreLinesAt, places_from, IsOutputOfFind, ReadsIfRequested, batch_output, batch_run, cursor_for, find_run, found_run, output_of_dump, output_of_lines}
+use Rattle.bd_cli_find.specs.Find.{ArePieces, IsEnded, Printing, places_from, IsOutputOfFind, ReadsIfRequested, batch_output, batch_run, cursor_for, each_document, find_run, found_run, output_of_dump, output_of_text}
 use Rattle.bd_cli_find.specs.Find.{counts_of, output_places, places_run}
-use Rattle.bd_cli_find.specs.inside.Find.{StopsAmong, WritesLines}
+use Rattle.bd_cli_find.specs.inside.Find.{StopsAmong, WritesPieces}
 use Rattle.bd_cli_find.proofs.BatchLemmas.{led_few}
 use Rattle.bd_cursor_model.specs.{Answer.at_most, Session.OpenCursor, Session.Query}
 use Rattle.bd_cli_print.specs.Printer.{IsNamedText}
@@ -32,44 +32,51 @@ use Rattle.bd_cli_files.specs.{Load.FailsToLoad, Load.ReportsLoadFault}
 use Rattle.bd_cli_find.proofs.UniqueLemmas.{found_some}
 use Rattle.bd_cli_scan.specs.declared.input.InputFault.TheVariants as faults
 
--- ---- the lines of documents at places
+-- ---- the pieces for places
 
-module _ (IsText : ℕ → List ℕ → Type 0) where
-  lines_join : (ps qs a b : List ℕ) → AreLinesAt IsText ps a → AreLinesAt IsText qs b → AreLinesAt IsText (ps ++ qs) (a ++ b)
-  lines_join [] qs a b none are = subst (λ (x : List ℕ). AreLinesAt IsText qs (x ++ b)) (sym none) are
-  lines_join (p ∷ ps) qs a b (text, rest, is, others, splits) are =
-      (text, rest ++ b, is, lines_join ps qs rest b others are, ap (λ x. x ++ b) splits ∙ append_assoc text (10 ∷ rest) b)
+module _ (IsPiece : ℕ → List ℕ → Type 0) where
+  pieces_join : (ps qs a b : List ℕ) → ArePieces IsPiece ps a → ArePieces IsPiece qs b → ArePieces IsPiece (ps ++ qs) (a ++ b)
+  pieces_join [] qs a b none are = subst (λ (x : List ℕ). ArePieces IsPiece qs (x ++ b)) (sym none) are
+  pieces_join (p ∷ ps) qs a b (piece, rest, is, others, splits) are =
+      (piece, rest ++ b, is, pieces_join ps qs rest b others are, ap (λ x. x ++ b) splits ∙ append_assoc piece rest b)
 
-  -- the line of a document
-  abbrev pub IsLineAt : ℕ → List ℕ → Type 0
-  IsLineAt p line = (text : List ℕ) × IsText p text × (line ≡ text ++ 10 ∷ [])
+  one_piece : (p : ℕ) (piece : List ℕ) → IsPiece p piece → ArePieces IsPiece (p ∷ []) piece
+  one_piece p piece is = (piece, [], is, refl, sym (append-nil piece))
 
-  one_line : (p : ℕ) (line : List ℕ) → IsLineAt p line → AreLinesAt IsText (p ∷ []) line
-  one_line p line (text, is, splits) = (text, [], is, refl, splits)
-
-  module _ (ps : List ℕ) (i : ℕ) (old mid : Writer) (wrote : WritesLines IsText (take i ps) (between old mid)) where
-    -- after the first lines memory ran out
-    pub runs_out : StopsAmong IsText ps (between old mid) NoMemory
+  module _ (ps : List ℕ) (i : ℕ) (old mid : Writer) (wrote : WritesPieces IsPiece (take i ps) (between old mid)) where
+    -- after the first pieces memory ran out
+    pub runs_out : StopsAmong IsPiece ps (between old mid) NoMemory
     runs_out = (wrote.0, (take i ps, drop i ps, sym (take-append-drop i ps), wrote.1), wrote.2)
 
-    module _ (new : Writer) (line : List ℕ) (lt : i < length ps) (is : IsLineAt (get_or ps i 0) line) where
-      -- one more line was written
-      pub writes_more : TakesText (between mid new) line → WritesLines IsText (take (i + 1) ps) (between old new)
+    module _ (new : Writer) (piece : List ℕ) (lt : i < length ps) (is : IsPiece (get_or ps i 0) piece) where
+      -- one more piece was written
+      pub writes_more : TakesText (between mid new) piece → WritesPieces IsPiece (take (i + 1) ps) (between old new)
       writes_more took = (
-        wrote.0 ++ line,
-        subst (λ (x : List ℕ). AreLinesAt IsText x (wrote.0 ++ line)) (sym (take_more ps i 0 lt))
-            (lines_join (take i ps) (get_or ps i 0 ∷ []) wrote.0 line wrote.1 (one_line (get_or ps i 0) line is)),
-        takes_both old mid new wrote.0 line wrote.2 took,
+        wrote.0 ++ piece,
+        subst (λ (x : List ℕ). ArePieces IsPiece x (wrote.0 ++ piece)) (sym (take_more ps i 0 lt))
+            (pieces_join (take i ps) (get_or ps i 0 ∷ []) wrote.0 piece wrote.1 (one_piece (get_or ps i 0) piece is)),
+        takes_both old mid new wrote.0 piece wrote.2 took,
       )
 
-      -- the next line was not written
-      pub fails_next : WriteFailsWithin (between mid new) line → StopsAmong IsText ps (between old new) Unwritten
+      -- the next piece was not written
+      pub fails_next : WriteFailsWithin (between mid new) piece → StopsAmong IsPiece ps (between old new) Unwritten
       fails_next failed =
           let p = get_or ps i 0 in
           let others = drop (i + 1) ps in
           let splits : ps ≡ take i ps ++ p ∷ others = sym (take-append-drop (i + 1) ps)
           ∙ ap (λ (x : List ℕ). x ++ others) (take_more ps i 0 lt) ∙ append_assoc (take i ps) (p ∷ []) others in
-          (wrote.0, line, (take i ps, p, others, splits, wrote.1, one_line p line is), write_fails_after old mid new wrote.0 line wrote.2 failed)
+          (wrote.0, piece, (take i ps, p, others, splits, wrote.1, is), write_fails_after old mid new wrote.0 piece wrote.2 failed)
+
+  -- a piece alone was written
+  pub writes_one : (n : ℕ) (piece : List ℕ) (old new : Writer) → IsPiece n piece → TakesText (between old new) piece
+      → WritesPieces IsPiece (n ∷ []) (between old new)
+  writes_one n piece old new is took = (piece, one_piece n piece is, took)
+
+  -- or it was not
+  pub fails_one : (n : ℕ) (piece : List ℕ) (old new : Writer) → IsPiece n piece → WriteFailsWithin (between old new) piece
+      → StopsAmong IsPiece (n ∷ []) (between old new) Unwritten
+  fails_one n piece old new is failed =
+      ([], piece, ([], n, [], refl, refl, is), write_fails_after old old new [] piece (takes_none old) failed)
 
 -- the lines of the documents at places of a dump
 module _ (ds : List Doc) where
@@ -82,13 +89,18 @@ module _ (ds : List Doc) where
   abbrev AreInside : List ℕ → Type 0
   AreInside ps = All (λ p. p < length ds) ps
 
-  named_lines : (ps text : List ℕ) → AreInside ps → AreLinesAt (IsNamedText ds) ps text → text ≡ lines_of ps
+  named_line : (p : ℕ) (line : List ℕ) (ps : List ℕ) → p < length ds → IsEnded (IsNamedText ds) (10 ∷ []) p line → line ++ lines_of ps ≡ lines_of (p ∷ ps)
+  named_line p line ps lt (text, is, splits) =
+      let there : slice_get ds p ≡ Some (get_or ds p []) = slice_get-get_or ds p [] lt in
+      let words = text_of (doc (fields_of (get_or ds p []))) in
+      let one : lines_of (p ∷ ps) ≡ words ++ 10 ∷ lines_of ps = (rw there refl) in
+      ap (λ (x : List ℕ). x ++ lines_of ps) (splits ∙ ap (λ (x : List ℕ). x ++ 10 ∷ []) is) ∙ append_assoc words (10 ∷ []) (lines_of ps) ∙ sym one
+
+  named_lines : (ps text : List ℕ) → AreInside ps → ArePieces (IsEnded (IsNamedText ds) (10 ∷ [])) ps text → text ≡ lines_of ps
   named_lines [] text inside none = none
-  named_lines (p ∷ ps) text inside (first, rest, is, others, splits) =
-      let there : slice_get ds p ≡ Some (get_or ds p []) = slice_get-get_or ds p [] (All-head (λ p. p < length ds) p ps inside) in
-      let more : rest ≡ lines_of ps = named_lines ps rest (All-tail (λ p. p < length ds) p ps inside) others in
-      let one : lines_of (p ∷ ps) ≡ text_of (doc (fields_of (get_or ds p []))) ++ 10 ∷ lines_of ps = (rw there refl) in
-      splits ∙ ap₂ (λ (x y : List ℕ). x ++ 10 ∷ y) is more ∙ sym one
+  named_lines (p ∷ ps) text inside (line, rest, is, others, splits) =
+      splits ∙ ap (λ (x : List ℕ). line ++ x) (named_lines ps rest (All-tail (λ p. p < length ds) p ps inside) others)
+      ∙ named_line p line ps (All-head (λ p. p < length ds) p ps inside) is
 
   first_inside : (ps qs : List ℕ) → AreInside (ps ++ qs) → AreInside ps
   first_inside [] qs inside = All-nil (λ p. p < length ds)
@@ -113,17 +125,17 @@ module _ (program : List ℕ) (out_old out_new : Writer) (err_old err_new : Writ
   refusal_is_output words (inl reported) = inl (refusal_output words, refl, takes_none out_old, reported)
   refusal_is_output words (inr reported) = nothing_output (refusal_output words) reported
 
-  module _ (IsText : ℕ → List ℕ → Type 0) (size : Option ℕ) where
+  module _ (printing : Printing) (size : Option ℕ) where
     -- memory ran out before a document was printed
     nothing_found : (q : Query) (token : Option Token) (places : Result (List ℕ) Reason) → ReportsMessage (between err_old err_new) (error_line program no_memory) Failed status
-        → Prints program (places_run IsText size q token places) (between out_old out_old) (between err_old err_new) status
-    nothing_found q token (Ok ps) reported = inr (inr ([], ([], at_most size ps, refl, refl), takes_none out_old, reported))
+        → Prints program (places_run printing size q token places) (between out_old out_old) (between err_old err_new) status
+    nothing_found q token (Ok ps) reported = inr (inr ([], ([], printing.numbers (at_most size ps), refl, refl), takes_none out_old, reported))
     nothing_found q token (Err why) reported = nothing_output (refusal_output (refused_text why)) reported
 
     -- the output if no cursor was opened
     pub refused_output : (w : Request × Option Token) (bytes : List ℕ) (ds : List Doc) (refused : Refused) → IsRefusedPart (places_from (query_to bytes ds w.0) w.1) refused
         → ReportsMessage (between err_old err_new) (error_line program (refused_text (reason_of refused))) Failed status ⊎ ReportsMessage (between err_old err_new) (error_line program no_memory) Failed status
-        → Prints program (found_run IsText size w bytes ds) (between out_old out_old) (between err_old err_new) status
+        → Prints program (found_run printing size w bytes ds) (between out_old out_old) (between err_old err_new) status
     unfolding refused_words
     refused_output w bytes ds refused (inl want) reported =
         let q = query_to bytes ds w.0 in
@@ -137,17 +149,18 @@ module _ (program : List ℕ) (out_old out_new : Writer) (err_old err_new : Writ
 
     module _ (c : OpenCursor) where
       -- the batch was printed, and the line of counts, or memory ran out for it
-      pub batch_printed : WritesLines IsText (at_most size c.remaining) (between out_old out_new)
+      pub batch_printed : WritesPieces printing.IsPiece (printing.numbers (at_most size c.remaining)) (between out_old out_new)
           → ReportsMessage (between err_old err_new) (counts_of size c) Done status ⊎ ReportsMessage (between err_old err_new) (error_line program no_memory) Failed status
-          → Prints program (batch_run IsText size c) (between out_old out_new) (between err_old err_new) status
-      batch_printed (printed, are, took) (inl reported) = inl (output_of_lines size c printed, (printed, are, refl), took, reported)
+          → Prints program (batch_run printing size c) (between out_old out_new) (between err_old err_new) status
+      batch_printed (printed, are, took) (inl reported) = inl (output_of_text size c printed, (printed, are, refl), took, reported)
       batch_printed (printed, are, took) (inr reported) =
-          inr (inr (printed, (at_most size c.remaining, [], sym (append-nil (at_most size c.remaining)), are), took, reported))
+          let ns = printing.numbers (at_most size c.remaining) in
+          inr (inr (printed, (ns, [], sym (append-nil ns), are), took, reported))
 
       -- standard output was stopped
-      pub batch_stopped : (stopped : OutputFault) → StopsAmong IsText (at_most size c.remaining) (between out_old out_new) stopped
+      pub batch_stopped : (stopped : OutputFault) → StopsAmong printing.IsPiece (printing.numbers (at_most size c.remaining)) (between out_old out_new) stopped
           → ReportsMessage (between err_old err_new) (error_line program (stop_words stopped)) Failed status
-          → Prints program (batch_run IsText size c) (between out_old out_new) (between err_old err_new) status
+          → Prints program (batch_run printing size c) (between out_old out_new) (between err_old err_new) status
       batch_stopped NoMemory (printed, first, took) reported = inr (inr (printed, first, took, reported))
       batch_stopped Unwritten (printed, next, is, failed) reported = inr (inl (printed, next, is, failed, reported))
 
@@ -188,15 +201,15 @@ load_reported {program} options w file out err status (faults.Faulty fault) is (
 
 -- a run by the texts of the dump's documents is a run of `find`
 module _ (program : List ℕ) (size : Option ℕ) (ds : List Doc) (out err : Over Writer) (status : Status) where
-  batch_named : (c : OpenCursor) → All (λ p. p < length ds) (at_most size c.remaining) → Prints program (batch_run (IsNamedText ds) size c) out err status
+  batch_named : (c : OpenCursor) → All (λ p. p < length ds) (at_most size c.remaining) → Prints program (batch_run (each_document (IsNamedText ds) (10 ∷ [])) size c) out err status
       → Prints program (partial_run (batch_output size ds c)) out err status
   batch_named c inside (inl (output, (printed, are, is), took, reported)) =
-      inl (output, is ∙ ap (output_of_lines size c) (named_lines ds (at_most size c.remaining) printed inside are), took, reported)
+      inl (output, is ∙ ap (output_of_text size c) (named_lines ds (at_most size c.remaining) printed inside are), took, reported)
   batch_named c inside (inr (inl (printed, next, (ps, p, others, splits, are, one), (prefix, rest, split, some, contents, failed), reported))) =
       let within = subst (λ (x : List ℕ). All (λ p. p < length ds) x) splits inside in
       let first : printed ≡ lines_of ds ps = named_lines ds ps printed (first_inside ds ps (p ∷ others) within) are in
       let line : next ≡ lines_of ds (p ∷ []) =
-      named_lines ds (p ∷ []) next (first_inside ds (p ∷ []) others (second_inside ds ps (p ∷ others) within)) one in
+      sym (append-nil next) ∙ named_line ds p next [] (All-head (λ p. p < length ds) p others (second_inside ds ps (p ∷ others) within)) one in
       let whole : lines_of ds (at_most size c.remaining) ≡ (printed ++ next) ++ lines_of ds others =
       ap (lines_of ds) splits ∙ lines_split ds ps (p ∷ others) ∙ ap₂ (λ (x y : List ℕ). x ++ y) (sym first)
       (lines_split ds (p ∷ []) others ∙ ap (λ (x : List ℕ). x ++ lines_of ds others) (sym line)) ∙ sym (append_assoc printed next (lines_of ds others)) in
@@ -220,12 +233,12 @@ module _ (program : List ℕ) (size : Option ℕ) (ds : List Doc) (out err : Ove
   limited_inside n None ps inside = inside
   limited_inside n (Some k) ps inside = All-take (λ p. p < n) k ps inside
 
-  pub found_named : (w : Request × Option Token) (bytes : List ℕ) → Prints program (found_run (IsNamedText ds) size w bytes ds) out err status
+  pub found_named : (w : Request × Option Token) (bytes : List ℕ) → Prints program (found_run (each_document (IsNamedText ds) (10 ∷ [])) size w bytes ds) out err status
       → Prints program (partial_run (output_of_dump size w bytes ds)) out err status
   found_named w bytes = let q = query_to bytes ds w.0 in go q refl (places_from q w.1) refl
     where
       go : (q : Query) → q.selection.count ≡ length ds → (places : Result (List ℕ) Reason) → places_from q w.1 ≡ places
-          → Prints program (places_run (IsNamedText ds) size q w.1 places) out err status
+          → Prints program (places_run (each_document (IsNamedText ds) (10 ∷ [])) size q w.1 places) out err status
           → Prints program (partial_run (output_places size ds q w.1 places)) out err status
       go q count (Err why) led prints = prints
       go q count (Ok ps) led prints =

@@ -60,13 +60,13 @@ abbrev pub counts_of : Option ℕ → OpenCursor → List ℕ
 counts_of size c = let ps = at_most size c.remaining in
     find_count_line (length ps) (is_empty (remaining_over size c.remaining)) (token_after c.digest c.token ps)
 
--- the output of `find` for a cursor whose first batch has these lines: the lines, and the line of counts
-abbrev pub output_of_lines : Option ℕ → OpenCursor → List ℕ → Transcript
-output_of_lines size c lines = record { out = lines; err = λ program. counts_of size c; status = Done }
+-- the output of `find` for a cursor if this text is printed of its first batch: the text, and the line of counts
+abbrev pub output_of_text : Option ℕ → OpenCursor → List ℕ → Transcript
+output_of_text size c printed = record { out = printed; err = λ program. counts_of size c; status = Done }
 
 -- the output of `find` for a cursor: the documents of its first batch, and the line of counts with the token
 abbrev pub batch_output : Option ℕ → List Doc → OpenCursor → Transcript
-batch_output size ds c = output_of_lines size c (lines (documents_at ds (at_most size c.remaining)))
+batch_output size ds c = output_of_text size c (lines (documents_at ds (at_most size c.remaining)))
 
 -- the output of `find` for a query and a token: the first batch of the requested documents, with this size;
 -- or why the token is refused
@@ -113,41 +113,58 @@ find_run options file = let run = run_after (ReadsIfRequested (requested_by opti
   IsBegun = λ text. run.IsBegun text ⊎ ((text ≡ []) × (file.after ≡ file.before));
 }
 
--- ---- by what prints a document
+-- ---- by what is printed of the documents
 
--- These are the lines of the documents at these places, where a text has this property for its place: each text, and a newline.
-abbrev pub AreLinesAt : (ℕ → List ℕ → Type 0) → List ℕ → List ℕ → Type 0
-AreLinesAt IsText [] lines = lines ≡ []
-AreLinesAt IsText (p ∷ ps) lines =
-    (text : List ℕ) × (rest : List ℕ) × IsText p text × AreLinesAt IsText ps rest × (lines ≡ text ++ 10 ∷ rest)
+-- what is printed of the documents that are found: for which numbers, and a piece with this property for each of these
+pub record Printing : Type 1 where
+  pub numbers : List ℕ → List ℕ
+  pub IsPiece : ℕ → List ℕ → Type 0
 
--- These are the lines of the documents at the first of these places.
-abbrev pub AreFirstLines : (ℕ → List ℕ → Type 0) → List ℕ → List ℕ → Type 0
-AreFirstLines IsText ps lines =
-    (printed : List ℕ) × (others : List ℕ) × (ps ≡ printed ++ others) × AreLinesAt IsText printed lines
+-- The piece is the text of the document with that number, and this end.
+abbrev pub IsEnded : (ℕ → List ℕ → Type 0) → List ℕ → ℕ → List ℕ → Type 0
+IsEnded IsText end p piece = (text : List ℕ) × IsText p text × (piece ≡ text ++ end)
 
--- These are the lines of the documents at the first of these places, and this is the line of the next.
-abbrev pub IsNextLine : (ℕ → List ℕ → Type 0) → List ℕ → List ℕ → List ℕ → Type 0
-IsNextLine IsText ps lines next = (printed : List ℕ) × (p : ℕ) × (others : List ℕ) × (ps ≡ printed ++ p ∷ others)
-    × AreLinesAt IsText printed lines × AreLinesAt IsText (p ∷ []) next
+-- each document, and this end after each
+abbrev pub each_document : (ℕ → List ℕ → Type 0) → List ℕ → Printing
+each_document IsText end = record { numbers = λ ps. ps; IsPiece = IsEnded IsText end }
 
--- A run of `find` for a cursor prints its first batch: a piece is the line of a document.
-abbrev pub batch_run : (ℕ → List ℕ → Type 0) → Option ℕ → OpenCursor → Run
-batch_run IsText size c = let ps = at_most size c.remaining in record {
-  IsOutput = λ output. (lines : List ℕ) × AreLinesAt IsText ps lines × (output ≡ output_of_lines size c lines);
-  IsNext = IsNextLine IsText ps;
-  IsBegun = AreFirstLines IsText ps;
+-- one piece: how many documents they are, on a line
+abbrev pub their_count : Printing
+their_count = record { numbers = λ ps. length ps ∷ []; IsPiece = λ n piece. piece ≡ decimal n ++ 10 ∷ [] }
+
+-- These are the pieces for these numbers, joined.
+abbrev pub ArePieces : (ℕ → List ℕ → Type 0) → List ℕ → List ℕ → Type 0
+ArePieces IsPiece [] text = text ≡ []
+ArePieces IsPiece (n ∷ ns) text =
+    (piece : List ℕ) × (rest : List ℕ) × IsPiece n piece × ArePieces IsPiece ns rest × (text ≡ piece ++ rest)
+
+-- These are the pieces for the first of these numbers.
+abbrev pub AreFirstPieces : (ℕ → List ℕ → Type 0) → List ℕ → List ℕ → Type 0
+AreFirstPieces IsPiece ns text =
+    (printed : List ℕ) × (others : List ℕ) × (ns ≡ printed ++ others) × ArePieces IsPiece printed text
+
+-- These are the pieces for the first of these numbers, and this is the next.
+abbrev pub IsNextPiece : (ℕ → List ℕ → Type 0) → List ℕ → List ℕ → List ℕ → Type 0
+IsNextPiece IsPiece ns text next = (printed : List ℕ) × (n : ℕ) × (others : List ℕ) × (ns ≡ printed ++ n ∷ others)
+    × ArePieces IsPiece printed text × IsPiece n next
+
+-- A run of `find` for a cursor prints its first batch piece by piece.
+abbrev pub batch_run : Printing → Option ℕ → OpenCursor → Run
+batch_run printing size c = let ns = printing.numbers (at_most size c.remaining) in record {
+  IsOutput = λ output. (text : List ℕ) × ArePieces printing.IsPiece ns text × (output ≡ output_of_text size c text);
+  IsNext = IsNextPiece printing.IsPiece ns;
+  IsBegun = AreFirstPieces printing.IsPiece ns;
 }
 
 -- A run of `find` for a query and a token prints the first batch of the requested documents, or why the token is refused.
-abbrev pub places_run : (ℕ → List ℕ → Type 0) → Option ℕ → Query → Option Token → Result (List ℕ) Reason → Run
-places_run IsText size q token (Ok ps) = batch_run IsText size (cursor_for 1 q token ps)
-places_run IsText size q token (Err why) = partial_run (refusal_output (refused_text why))
+abbrev pub places_run : Printing → Option ℕ → Query → Option Token → Result (List ℕ) Reason → Run
+places_run printing size q token (Ok ps) = batch_run printing size (cursor_for 1 q token ps)
+places_run printing size q token (Err why) = partial_run (refusal_output (refused_text why))
 
--- A run of `find` over a well-formed dump, where what prints a document gives each place a text with this property.
-abbrev pub found_run : (ℕ → List ℕ → Type 0) → Option ℕ → Request × Option Token → List ℕ → List Doc → Run
-found_run IsText size w bytes ds =
-    let q = query_to bytes ds w.0 in places_run IsText size q w.1 (places_from q w.1)
+-- A run of `find` over a well-formed dump.
+abbrev pub found_run : Printing → Option ℕ → Request × Option Token → List ℕ → List Doc → Run
+found_run printing size w bytes ds =
+    let q = query_to bytes ds w.0 in places_run printing size q w.1 (places_from q w.1)
 
 -- ---- in terms of documents
 

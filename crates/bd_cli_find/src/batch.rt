@@ -1,28 +1,30 @@
 //! The first batch of a request, and its output.
 
-ghost use Rattle.std.specs.Prelude.{◌≡◌, ◌++◌, ◌∷◌, [], ◌<◌, ◌≤◌, ◌⊎◌, ℕ, List, IfErr, IfOk, MatchOption, OnOk, Some, if◌then◌else◌, length, option_map, string_bytes, true};
+ghost use Rattle.std.specs.Prelude.{◌≡◌, ◌++◌, ◌<◌, ◌≤◌, ◌⊎◌, ℕ, IfErr, IfOk, MatchOption, OnOk, Option, length, option_map, string_bytes, true};
 ghost use Rattle.std.specs.List.{All};
 ghost use Rattle.bd_value.specs.Limits.{greatest_count};
 ghost use Rattle.bd_io_device.specs.Devices.{over};
 ghost use Rattle.bd_path.specs.PathNames.{path_text};
-ghost use Rattle.bd_cursor_model.specs.{Session.OpenCursor, Session.cursor_of, Laws.new_state};
+ghost use Rattle.bd_cursor_model.specs.{Session.OpenCursor, Laws.new_state};
 ghost use Rattle.bd_bson_dump.specs.{Collection.bytes_of, Collection.documents};
 ghost use Rattle.bd_cursor_sort.specs.Selection.{query_of};
-ghost use Rattle.bd_cursor.specs.{Access.way_of, SessionView.dump_of, SessionView.hint_of, SessionView.positioned_token, SessionView.state_of};
+ghost use Rattle.bd_cursor.specs.{Access.way_of, SessionView.dump_of, SessionView.given_batch, SessionView.hint_of, SessionView.positioned_token, SessionView.state_of};
 ghost use Rattle.bd_cursor_request.specs.Request.{request_view};
 ghost use Rattle.bd_cursor_request.specs.declared.results.Refused.TheVariants.{NoMemory as memory};
 ghost use Rattle.bd_cli_scan.specs.Output.{error_line, no_memory};
 ghost use Rattle.bd_cli_scan.specs.Run.{Prints, ReportsMessage};
 ghost use Rattle.bd_cli_scan.specs.declared.output.Status.TheVariants.{Done, Failed};
 ghost use Rattle.bd_cli_find.specs.Options.{fits_batch};
-ghost use Rattle.bd_cli_find.specs.Find.{batch_run, end_words, find_count_line, found_run, token_words};
-ghost use Rattle.bd_cli_find.specs.inside.Find.{AwaitsFirst, IsOpenedOn, IsReady, StopsAmong, WritesLines, index_way};
+ghost use Rattle.bd_cli_find.specs.Find.{IsEnded, batch_run, each_document, end_words, find_count_line, found_run, their_count, token_words};
+ghost use Rattle.bd_cli_find.specs.inside.Find.{AwaitsFirst, IsBatchOf, IsFirstBatch, IsOpenedOn, StopsAmong, WritesPieces, index_way};
 
 use crate::options::{Search, report_refused};
 use bd_bson_dump::Dump;
 use bd_cli_print::PlacePrinter;
 use bd_cli_scan::Status;
-use bd_cli_scan::output::{OutputFault, push_number, report_no_memory, report_stop, status_of};
+use bd_cli_scan::output::{
+    OutputFault, push_number, report_no_memory, report_stop, status_of, write_count,
+};
 use bd_cursor::{Choice, Session};
 use bd_cursor_request::{Batch, Refused, Token};
 use bd_extjson_text::append_few;
@@ -41,7 +43,7 @@ const DOCUMENTS_MORE: &str = " documents, more";
 const TOKEN: &str = ", token ";
 
 /// Prints the first batch, of this size, of a search in a dump; without a size all of its documents. The printer has a document
-/// for each place of the dump.
+/// for each place of the dump, and `end` is written after each document.
 pub fn print_found<P: PlacePrinter, O: Output, E: Output>(
     alloc: Global,
     program: &str,
@@ -49,6 +51,7 @@ pub fn print_found<P: PlacePrinter, O: Output, E: Output>(
     search: Search,
     size: Option<u32>,
     printer: &P,
+    end: &[u8],
     out: &mut O,
     err: &mut E,
 ) -> Status
@@ -56,14 +59,69 @@ pub fn print_found<P: PlacePrinter, O: Output, E: Output>(
     requires fits { fits_batch size ≡ true }
     requires printable { (place : ℕ) → place < length (documents dump) →
         P.can_print printer.now dump place }
-    ensures { Prints program.now (found_run (P.is_text printer.now dump) size
+    ensures { Prints program.now (found_run
+        (each_document (P.is_text printer.now dump) end.now) size
         (request_view search.request, search.token) (bytes_of dump) (documents dump))
         (over O.state out.old out.new) (over E.state err.old err.new) result }
 {
     let mut session = Session::new(alloc, dump);
-    match open_first(alloc, &mut session, search) {
-        Ok(id) => print_batch(alloc, program, &mut session, id, size, printer, out, err),
+    match first_batch(alloc, &mut session, search, size) {
+        Ok(batch) => print_batch(
+            alloc,
+            program,
+            session.dump(),
+            &batch,
+            printer,
+            end,
+            out,
+            err,
+        ),
         Err(refused) => report_refused(alloc, program, &refused, err),
+    }
+}
+
+/// Prints how many documents the first batch of a search has, on a line. No document is printed.
+pub fn print_count<O: Output, E: Output>(
+    alloc: Global,
+    program: &str,
+    dump: Dump,
+    search: Search,
+    size: Option<u32>,
+    out: &mut O,
+    err: &mut E,
+) -> Status
+    requires within_limit { length (documents dump) ≤ greatest_count }
+    requires fits { fits_batch size ≡ true }
+    ensures { Prints program.now (found_run their_count size
+        (request_view search.request, search.token) (bytes_of dump) (documents dump))
+        (over O.state out.old out.new) (over E.state err.old err.new) result }
+{
+    let mut session = Session::new(alloc, dump);
+    match first_batch(alloc, &mut session, search, size) {
+        Ok(batch) => print_number(alloc, program, &batch, out, err),
+        Err(refused) => report_refused(alloc, program, &refused, err),
+    }
+}
+
+/// The first batch of a search, by the first cursor of a session; without a size all of its documents.
+fn first_batch(
+    alloc: Global,
+    session: &mut Session,
+    search: Search,
+    size: Option<u32>,
+) -> Result<Batch, Refused>
+    requires first { state_of session.now ≡ new_state }
+    requires within_limit { length (documents (dump_of session.now)) ≤ greatest_count }
+    requires fits { fits_batch size ≡ true }
+    ensures batch { IsFirstBatch size (query_of (dump_of session.old) search.request)
+        search.token result }
+    ensures dump { dump_of session.new ≡ dump_of session.old }
+{
+    let id = open_first(alloc, session, search)?;
+    match session.next(id, most_of(size)) {
+        Ok(batch) => Ok(batch),
+        // The cursor is open: memory ran out.
+        Err(_) => Err(Refused::NoMemory),
     }
 }
 
@@ -98,31 +156,45 @@ fn choose(alloc: Global, session: &mut Session, index: Option<Path>) -> Result<C
     Ok(Choice::Index(copy))
 }
 
-/// Prints the first batch of a cursor.
+/// Prints a batch, a piece for each of its documents.
 fn print_batch<P: PlacePrinter, O: Output, E: Output>(
     alloc: Global,
     program: &str,
-    session: &mut Session,
-    id: u64,
-    size: Option<u32>,
+    dump: &Dump,
+    batch: &Batch,
     printer: &P,
+    end: &[u8],
     out: &mut O,
     err: &mut E,
 ) -> Status
-    requires ready { IsReady (state_of session.now) id (length (documents (dump_of session.now))) }
-    requires fits { fits_batch size ≡ true }
-    requires printable { (place : ℕ) → place < length (documents (dump_of session.now)) →
-        P.can_print printer.now (dump_of session.now) place }
-    ensures { (cursor : OpenCursor) → cursor_of id (state_of session.old).cursors ≡ Some cursor →
-        Prints program.now (batch_run (P.is_text printer.now (dump_of session.old)) size cursor)
+    requires { All (P.can_print printer.now dump.now) batch.now.places.items }
+    ensures { (size : Option ℕ) (cursor : OpenCursor) →
+        IsBatchOf size cursor (given_batch batch.now) → Prints program.now
+        (batch_run (each_document (P.is_text printer.now dump.now) end.now) size cursor)
         (over O.state out.old out.new) (over E.state err.old err.new) result }
 {
-    let Ok(batch) = session.next(id, most_of(size)) else {
-        return report_no_memory(program, err);
-    };
-    match write_documents(alloc, printer, session.dump(), &batch.places, out) {
-        Ok(()) => report_batch(alloc, program, &batch, err),
+    match write_documents(alloc, printer, end, dump, &batch.places, out) {
+        Ok(()) => report_batch(alloc, program, batch, err),
         Err(fault) => report_stop(program, fault, err),
+    }
+}
+
+/// Prints how many documents a batch has.
+fn print_number<O: Output, E: Output>(
+    alloc: Global,
+    program: &str,
+    batch: &Batch,
+    out: &mut O,
+    err: &mut E,
+) -> Status
+    ensures { (size : Option ℕ) (cursor : OpenCursor) →
+        IsBatchOf size cursor (given_batch batch.now) →
+        Prints program.now (batch_run their_count size cursor)
+        (over O.state out.old out.new) (over E.state err.old err.new) result }
+{
+    match write_count(batch.places.len() as u64, "\n", out) {
+        Ok(()) => report_batch(alloc, program, batch, err),
+        Err(_) => report_stop(program, OutputFault::Unwritten, err),
     }
 }
 
@@ -136,43 +208,45 @@ fn most_of(size: Option<u32>) -> u64
     }
 }
 
-/// Writes the documents for these places, one per line. If memory runs out, the lines of the first of them were written.
+/// Writes a piece for each of these places. If memory runs out, those for the first of them were written.
 fn write_documents<P: PlacePrinter, O: Output>(
     alloc: Global,
     printer: &P,
+    end: &[u8],
     dump: &Dump,
     places: &[u32],
     out: &mut O,
 ) -> Result<(), OutputFault>
     requires { All (P.can_print printer.now dump.now) places.now }
-    ensures wrote { OnOk result (WritesLines
-        (P.is_text printer.now dump.now) places.now (over O.state out.old out.new)) }
-    ensures stops { IfErr result (StopsAmong
-        (P.is_text printer.now dump.now) places.now (over O.state out.old out.new)) }
+    ensures wrote { OnOk result (WritesPieces (IsEnded (P.is_text printer.now dump.now) end.now)
+        places.now (over O.state out.old out.new)) }
+    ensures stops { IfErr result (StopsAmong (IsEnded (P.is_text printer.now dump.now) end.now)
+        places.now (over O.state out.old out.new)) }
 {
     let mut buffer = Vec::new(alloc);
     for place in places {
-        let line = line_at(printer, dump, *place, &mut buffer)?;
-        write_all(out, line)?;
+        let piece = piece_at(printer, end, dump, *place, &mut buffer)?;
+        write_all(out, piece)?;
     }
     Ok(())
 }
 
-/// The line of the document for a place, in a buffer that has no other use.
+/// What is printed for a place, in a buffer that has no other use.
 #[inline(always)]
-fn line_at<'a, P: PlacePrinter>(
+fn piece_at<'a, P: PlacePrinter>(
     printer: &P,
+    end: &[u8],
     dump: &Dump,
     place: u32,
     buffer: &'a mut Vec<u8>,
 ) -> Result<&'a [u8], NoMemory>
     requires { P.can_print printer.now dump.now place }
-    ensures { IfOk result (λ line. (text : List ℕ) × P.is_text printer.now dump.now place text
-        × (line.now ≡ text ++ 10 ∷ [])) }
+    ensures { IfOk result (λ piece.
+        IsEnded (P.is_text printer.now dump.now) end.now place piece.now) }
 {
-    let end = printer.append(dump, place, buffer, 0)?;
-    let end = append_few(b"\n", buffer, end)?;
-    Ok(&buffer[..end])
+    let at = printer.append(dump, place, buffer, 0)?;
+    let at = append_few(end, buffer, at)?;
+    Ok(&buffer[..at])
 }
 
 /// Reports how many documents a batch has, whether nothing remains, and the token after it.

@@ -46,6 +46,7 @@ pub fn find<R: Input, O: Output, E: Output>(
             search,
             options.batch,
             &NamedPrinter,
+            b"\n",
             out,
             err,
         ),

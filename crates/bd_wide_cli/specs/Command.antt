@@ -18,8 +18,8 @@ module _ {C : Type 0} (state : C → Reader) (gives : C → Option (List ℕ) �
   RunsCommand (commands.Dump format) file out err status =
       Prints (codes "bsonwide") (dump_run_by (all_types format) file) out err status
   RunsCommand commands.Pack file out err status = Prints (codes "bsonwide") (pack_run_by packing.all_types file) out err status
-  RunsCommand (commands.Find options) file out err status =
-      Prints (codes "bsonwide") (wide_find_run options file) out err status
+  RunsCommand (commands.Find options form) file out err status =
+      Prints (codes "bsonwide") (wide_find_run form options file) out err status
   RunsCommand commands.Serve file out err status =
       Prints (codes "bsonwide") (wide_serve_run state gives old new file) out err status
   RunsCommand (commands.Order order) file out err status = FiltersInput order.paths.items file out err status

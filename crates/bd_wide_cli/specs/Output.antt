@@ -30,6 +30,7 @@ abbrev pub usage : List ℕ
 usage = codes "usage: bsonwide dump FILE [--jsonFormat FORMAT]\n"
     ++ codes "       bsonwide check FILE\n"
     ++ codes "       bsonwide pack FILE\n"
-    ++ codes "       bsonwide find FILE [--query Q] [--sort S] [--skip N] [--limit N] [--batch N] [--index PATH] [--after TOKEN]\n"
+    ++ codes "       bsonwide find FILE [--query Q] [--sort S] [--skip N] [--limit N] [--batch N] [--index PATH] [--after TOKEN]"
+    ++ codes " [--bson | --count]\n"
     ++ codes "       bsonwide serve FILE\n"
     ++ codes "       bsonwide order FILE [PATH..]\n"

@@ -9,7 +9,7 @@ use crate::dump::dump;
 use crate::output::PROGRAM;
 use crate::pack::WideLinePacker;
 use crate::running::filter_file;
-use bd_cli_args::{FindOptions, WordsFault};
+use bd_cli_args::{FindOptions, Form, WordsFault};
 use bd_cli_files::pack::pack_by;
 use bd_cli_scan::Status;
 use bd_cli_scan::check::check_all_types;
@@ -30,8 +30,8 @@ pub enum Command {
     Dump(JsonFormat),
     /// Each line of canonical Extended JSON as a document.
     Pack,
-    /// The documents that these options request, one a line.
-    Find(FindOptions),
+    /// The documents that these options request, in this form.
+    Find(FindOptions, Form),
     /// A reply to each command of a session.
     Serve,
     /// Each document with its number, and with whole numbers in the same order.
@@ -64,7 +64,7 @@ pub fn run<R: Input, C: Input, O: Output, E: Output>(
             let packer = WidePacker::new(alloc);
             pack_by(alloc, PROGRAM, WideLinePacker { packer }, file, out, err)
         }
-        Command::Find(options) => find(alloc, PROGRAM, options, file, out, err),
+        Command::Find(options, form) => find(alloc, PROGRAM, *form, options, file, out, err),
         Command::Serve => serve(alloc, PROGRAM, file, commands, out, err),
         Command::Order(order) => filter_file(alloc, order, file, out, err),
     }

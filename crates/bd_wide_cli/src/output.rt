@@ -47,7 +47,7 @@ pub(crate) fn report_stop<E: Output>(stop: &Stop, err: &mut E) -> Status
 const USAGE: &str = "usage: bsonwide dump FILE [--jsonFormat FORMAT]
        bsonwide check FILE
        bsonwide pack FILE
-       bsonwide find FILE [--query Q] [--sort S] [--skip N] [--limit N] [--batch N] [--index PATH] [--after TOKEN]
+       bsonwide find FILE [--query Q] [--sort S] [--skip N] [--limit N] [--batch N] [--index PATH] [--after TOKEN] [--bson | --count]
        bsonwide serve FILE
        bsonwide order FILE [PATH..]
 ";

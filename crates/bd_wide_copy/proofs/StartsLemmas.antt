@@ -1,5 +1,5 @@
 -- Where the documents of a dump begin.
-use Rattle.std.proofs.Common.{◌≡◌, ℕ, ℤ, pos, zero, suc, ◌+◌, ◌≤◌, ◌<◌, ltb, ◌||◌, List, [], ◌∷◌, ◌++◌, length, take, drop, get_or, slice_get, Option, Some, None, Result, Ok, Err, refl, sym, ap, ap₂, ◌∙◌, subst, arith, length-append, length-drop, take_at, drop_at, Bool, true, false, ◌&&◌}
+use Rattle.std.proofs.Common.{◌≡◌, ℕ, ℤ, pos, zero, suc, ◌+◌, ◌≤◌, ◌<◌, ltb, ◌||◌, List, [], ◌∷◌, ◌++◌, length, take, drop, get_or, slice_get, Option, Some, None, Result, Ok, Err, refl, sym, ap, ap₂, ◌∙◌, subst, arith, length-append, length-drop, take_at, drop_at, Bool, true, false, ◌&&◌, append_assoc}
 use Rattle.std.specs.{List.list_all, Option.is_none, Result.result_err}
 use Rattle.std.proofs.lemmas.{List.take-append-drop, List.drop-drop}
 use Rattle.std.specs.Prelude.{IsTrue, ◌↔◌}
@@ -50,23 +50,35 @@ module _ (worth : ElementType → List ℕ → ℤ) where
       ] le
 
   -- A document begins at each start.
-  abbrev Begins : List Doc → List ℕ → List ℕ → ℕ → Type 0
-  Begins ds whole starts i = (d : Doc) × (prefix : List ℕ) × (more : List ℕ) × (slice_get ds i ≡ Some d) × IsDocumentBy (valued worth) d prefix
+  abbrev Begins : List Doc → List ℕ → List ℕ → List ℕ → ℕ → Type 0
+  Begins ds whole bytes starts i = (d : Doc) × (prefix : List ℕ) × (more : List ℕ) × (slice_get ds i ≡ Some d) × IsDocumentBy (valued worth) d prefix
       × (drop (get_or starts i 0) whole ≡ prefix ++ more)
+      × (before : List ℕ) × AreJoinedBy (valued worth) (take i ds) before × (bytes ≡ before ++ (prefix ++ more))
 
   pub starts_begin : (ds : List Doc) (whole bytes : List ℕ) (n at : ℕ) → AreJoinedBy (valued worth) ds bytes → length bytes ≤ n → drop at whole ≡ bytes
-      → (i : ℕ) → i < length ds → Begins ds whole (starts_from n at bytes) i
+      → (i : ℕ) → i < length ds → Begins ds whole bytes (starts_from n at bytes) i
   starts_begin [] whole bytes n at j le here i lt = absurd (omega (arith, lt))
   starts_begin (d ∷ ds) whole bytes n at j le here i lt =
       let size = ap (λ (x : List ℕ). length x) j.4 ∙ length-append j.0 j.1 in
       let five = five_bytes worth d j.0 j.1 j.2 in
       let after : drop (at + length j.0) whole ≡ j.1 = sym (drop-drop (length j.0) at whole) ∙ ap (drop (length j.0)) (here ∙ j.4) ∙ drop_at j.0 j.1 (length j.0) refl in
-      elim n as (λ (m : ℕ). length bytes ≤ m → Begins (d ∷ ds) whole (starts_from m at bytes) i) [
+      elim n as (λ (m : ℕ). length bytes ≤ m → Begins (d ∷ ds) whole bytes (starts_from m at bytes) i) [
         | zero ↦ λ e. absurd (omega (arith, e, size, five))
-        | suc m ↦ λ e. subst (λ (ss : List ℕ). Begins (d ∷ ds) whole ss i) (sym (starts_step d j.0 j.1 bytes m at j.2 j.4))
-            (elim i as (λ (k : ℕ). k < suc (length ds) → Begins (d ∷ ds) whole (at ∷ starts_from m (at + length j.0) j.1) k) [
-              | zero ↦ λ l. (d, j.0, j.1, refl, j.2, here ∙ j.4)
-              | suc k ↦ λ l. starts_begin ds whole j.1 m (at + length j.0) j.3 (omega (arith, e, size, five)) after k (omega (arith, l))
+        | suc m ↦ λ e. subst (λ (ss : List ℕ). Begins (d ∷ ds) whole bytes ss i) (sym (starts_step d j.0 j.1 bytes m at j.2 j.4))
+            (elim i as (λ (k : ℕ). k < suc (length ds) → Begins (d ∷ ds) whole bytes (at ∷ starts_from m (at + length j.0) j.1) k) [
+              | zero ↦ λ l. (d, j.0, j.1, refl, j.2, here ∙ j.4, [], refl, j.4)
+              | suc k ↦ λ l.
+                  let b = starts_begin ds whole j.1 m (at + length j.0) j.3 (omega (arith, e, size, five)) after k (omega (arith, l)) in (
+                    b.0,
+                    b.1,
+                    b.2,
+                    b.3,
+                    b.4,
+                    b.5,
+                    j.0 ++ b.6,
+                    (j.0, b.6, j.2, b.7, refl),
+                    j.4 ∙ ap (λ (x : List ℕ). j.0 ++ x) b.8 ∙ sym (append_assoc j.0 b.6 (b.1 ++ b.2)),
+                  )
             ] lt)
       ] le
 
@@ -187,9 +199,9 @@ module _ (bytes starts : List ℕ) (fits : IsBytes bytes) (are : starts ≡ star
   unfolding starts_of
   counted worth ds j = ap (λ (ss : List ℕ). length ss) are ∙ starts_count worth ds bytes (length bytes) 0 j (omega arith)
 
-  begins_at : (worth : ElementType → List ℕ → ℤ) (ds : List Doc) → AreJoinedBy (valued worth) ds bytes → (n : ℕ) → n < length starts → Begins worth ds bytes starts n
+  begins_at : (worth : ElementType → List ℕ → ℤ) (ds : List Doc) → AreJoinedBy (valued worth) ds bytes → (n : ℕ) → n < length starts → Begins worth ds bytes bytes starts n
   unfolding starts_of
-  begins_at worth ds j n lt = subst (λ (ss : List ℕ). Begins worth ds bytes ss n) (sym are)
+  begins_at worth ds j n lt = subst (λ (ss : List ℕ). Begins worth ds bytes bytes ss n) (sym are)
       (starts_begin worth ds bytes bytes (length bytes) 0 j (omega arith) refl n (omega (arith, lt, counted worth ds j)))
 
   pub number_inside : (n : ℕ) → (count : ℕ) × IsCount bytes count × (n < count) → n < length starts
@@ -217,7 +229,7 @@ module _ (bytes starts : List ℕ) (fits : IsBytes bytes) (are : starts ≡ star
       let b = begins_at worth ds j n lt in
       let same : size ≡ length b.1 = stated ∙ ap stated_length b.5 ∙ stated_there worth b.0 b.1 b.2 b.4 in
       let all : document ≡ b.1 = is ∙ ap (take size) b.5 ∙ take_at b.1 b.2 size (sym same) in
-      (b.0, b.3, subst (IsDocumentBy (valued worth) b.0) (sym all) b.4)
+      (b.0, b.3, subst (IsDocumentBy (valued worth) b.0) (sym all) b.4, b.6, b.2, b.7, b.8 ∙ ap (λ (x : List ℕ). b.6 ++ (x ++ b.2)) (sym all))
 
   -- ---- by the offset, the bytes from there on, and the bytes of the document
 
@@ -292,3 +304,17 @@ pub few_starts : (bytes starts : List ℕ) → IsBytes bytes → starts ≡ star
 few_starts bytes starts fits are sound =
     let d = sound_documents bytes fits (subst (λ (ss : List ℕ). have_no_fault All bytes ss ≡ true) are sound) no_worth in
     omega (arith, counted bytes starts fits are sound no_worth d.0 d.1, few_documents no_worth d.0 bytes d.1)
+
+-- documents of the nineteen kinds are as many by value
+joined_by : (es : List Doc) (bytes : List ℕ) → AreJoined es bytes → (ws : List Doc) × AreJoinedBy (valued no_worth) ws bytes × (length es ≡ length ws)
+joined_by [] bytes j = ([], j, refl)
+joined_by (d ∷ ds) bytes j =
+    let by = plain_by no_worth no_code ((λ z f. refl), (λ z f. refl)) d j.0 j.2 in
+    let more = joined_by ds j.1 j.3 in
+    (coded_document (int64_of no_code) d ∷ more.0, (j.0, j.1, by, more.1, j.4), ap suc more.2)
+
+pub plain_count : (es : List Doc) (bytes : List ℕ) → AreJoined es bytes → IsCount bytes (length es)
+plain_count es bytes j worth ds are =
+    let by = joined_by es bytes j in
+    let le : length bytes ≤ length bytes = omega arith in
+    by.2 ∙ sym (starts_count no_worth by.0 bytes (length bytes) 0 by.1 le) ∙ starts_count worth ds bytes (length bytes) 0 are le

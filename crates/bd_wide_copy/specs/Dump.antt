@@ -1,5 +1,5 @@
 -- Dumps of documents of all types, by value: what they are, their copies and their numbers.
-use Rattle.std.specs.Prelude.{◌≡◌, ◌≤◌, ◌<◌, ◌⊎◌, ℕ, ℤ, List, [], ◌∷◌, ◌++◌, length, map, slice_get, Some}
+use Rattle.std.specs.Prelude.{◌≡◌, ◌≤◌, ◌<◌, ◌⊎◌, ℕ, ℤ, List, [], ◌∷◌, ◌++◌, length, map, slice_get, slice_index, take, true, Some}
 use Rattle.bd_value.specs.{Limits.longest_input, Tree.Doc, Tree.Scalar}
 use Rattle.bd_bson_view.specs.Spelling.{Grammar, IsDocumentBy, valued}
 use Rattle.bd_bson_view.specs.declared.raw_parts.ElementType.{ElementType}
@@ -8,7 +8,9 @@ use Rattle.bd_bson_check.specs.declared.fault.{Fault.Fault, FaultKind.FaultKind}
 use Rattle.bd_bson_check.specs.declared.profile.Profile.TheVariants.{All}
 use Rattle.bd_wide_copy.specs.{Copy.coded_document, Copy.int32_of, Numbers.document_numbers}
 use Rattle.bd_wide_rank.specs.{Rank.HaveSame, Worth.worth}
+use Rattle.bd_wide_copy.specs.inside.Starts.{have_no_fault, starts_of}
 use Rattle.bd_wide_copy.specs.declared.dump.WideDump.{WideDump}
+use Rattle.bd_wide_copy.specs.declared.starts.Starts.{Starts}
 
 -- The bytes are these documents by the grammar, one after the other with nothing between.
 -- By that of the nineteen kinds it is `AreJoined`.
@@ -25,10 +27,11 @@ AreDocuments bytes = (worth : ElementType → List ℕ → ℤ) → (ds : List D
 abbrev pub IsCount : List ℕ → ℕ → Type 0
 IsCount bytes n = (worth : ElementType → List ℕ → ℤ) (ds : List Doc) → AreJoinedBy (valued worth) ds bytes → n ≡ length ds
 
--- Of whatever documents the bytes are by value: these are the bytes of the document with that number.
+-- Of whatever documents the bytes are by value: these are the bytes of the document with that number, after those before it.
 abbrev pub IsDocumentAt : List ℕ → ℕ → List ℕ → Type 0
 IsDocumentAt bytes n document = (worth : ElementType → List ℕ → ℤ) (ds : List Doc) → AreJoinedBy (valued worth) ds bytes
     → (d : Doc) × (slice_get ds n ≡ Some d) × IsDocumentBy (valued worth) d document
+    × (before : List ℕ) × (after : List ℕ) × AreJoinedBy (valued worth) (take n ds) before × (bytes ≡ before ++ (document ++ after))
 
 -- the documents, each with a code in place of each number
 abbrev pub coded_documents : (ℤ → Scalar) → List Doc → List Doc
@@ -66,3 +69,9 @@ IsUnread bytes e = ((longest_input < length bytes) × HasNoOffset FaultKind.Dump
 -- the bytes that a dump in memory was read from
 abbrev pub bytes_of : WideDump → List ℕ
 bytes_of dump = dump.bytes.items
+
+-- The documents of these bytes, which have no fault, begin there.
+pub record AreStartsOf (starts : Starts) (bytes : List ℕ) : Type 0 where
+  pub fit : (i : ℕ) → slice_index bytes i < 256
+  pub begin : starts.starts.items ≡ starts_of bytes
+  pub sound : have_no_fault All bytes starts.starts.items ≡ true

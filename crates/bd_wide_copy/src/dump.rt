@@ -7,6 +7,7 @@ ghost use Rattle.bd_wide_copy.specs.inside.Starts.{have_no_fault, starts_of};
 
 use crate::copies::{add_all, write_copies};
 use crate::copy::Codes;
+use crate::starts::Starts;
 use bd_bson_view::raw_parts as raw;
 use bd_value::NoMemory;
 use bd_wide_rank::Numbers;
@@ -34,7 +35,7 @@ impl WideDump {
     ghost use Rattle.bd_bson_check.specs.FirstFault.{fault_under};
     ghost use Rattle.bd_wide.specs.Rewritten.{Adds};
     ghost use Rattle.bd_bson_view.specs.Spelling.{valued};
-    ghost use Rattle.bd_wide_copy.specs.Dump.{AreJoinedBy, IsCopyOfDump, AreNumbersOfAll, IsCount, IsDocumentAt, bytes_of};
+    ghost use Rattle.bd_wide_copy.specs.Dump.{AreJoinedBy, IsCopyOfDump, AreNumbersOfAll, AreStartsOf, IsCount, IsDocumentAt, bytes_of};
     ghost use Rattle.bd_wide_copy.specs.Numbers.{document_numbers};
     ghost use Rattle.bd_wide_rank.specs.{Rank.AreDistinct, Rank.HaveSame, Table.collected, Worth.worth};
 
@@ -107,6 +108,17 @@ impl WideDump {
             AreJoinedBy (valued worth) ds (bytes_of self.now) → AreDistinct table →
             HaveSame table (document_numbers ds) → length table < 2 ^ 30 }
     {}
+
+    /// The bytes that it was read from, and where its documents begin.
+    pub fn into_parts(self) -> (Vec<u8>, Starts)
+        ensures bytes { result.0.items ≡ bytes_of self }
+        ensures starts { AreStartsOf result.1 (bytes_of self) }
+    {
+        let starts = Starts {
+            starts: self.starts,
+        };
+        (self.bytes, starts)
+    }
 
     /// The bytes that it was read from.
     pub fn into_bytes(self) -> Vec<u8>

@@ -19,6 +19,7 @@
 //! - `copies`: the same for the documents of a dump in turn.
 //! - `dump`: `WideDump`, a dump in memory: its documents, their copies and numbers, and whether it has a double or a decimal128.
 //! - `reading`: `read_wide_dump`, which reads one.
+//! - `starts`: `Starts`, where the documents of a dump begin, apart from its bytes.
 //! - `table`: the codes of a `Table` of `bd_wide_rank`: the ranks of numbers among those of a dump.
 //! - `laws`: what is written for a document by value is spelled by the document with codes.
 #![tactic(auto)]
@@ -29,6 +30,7 @@ mod dump;
 mod laws;
 mod numbers;
 mod reading;
+mod starts;
 mod table;
 
 pub use copy::{Codes, write_copy};
@@ -36,3 +38,4 @@ pub use dump::WideDump;
 pub use laws::{copies_are_spelled, plain_documents_by_value};
 pub use numbers::collect_numbers;
 pub use reading::read_wide_dump;
+pub use starts::Starts;

@@ -6,3 +6,4 @@ pub mod NumberLemmas
 pub mod QuestionLemmas
 pub mod TypesLemmas
 pub mod WidthLemmas
+pub mod PrinterLemmas

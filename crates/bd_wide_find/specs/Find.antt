@@ -1,5 +1,5 @@
 -- What `bsonwide find` prints for its options and an input: numbers of all types match, and are sorted, by their values.
-use Rattle.std.specs.Prelude.{◌≡◌, ◌⊎◌, ℕ, ℤ, true, false, List, [], codes, Option, unwrap_or, Ok, Err}
+use Rattle.std.specs.Prelude.{◌≡◌, ◌⊎◌, ℕ, ℤ, true, false, List, [], ◌∷◌, codes, Option, unwrap_or, Ok, Err}
 use Rattle.bd_value.specs.{Tree.Doc, Tree.doc, Tree.fields_of, Fits.Fits}
 use Rattle.bd_io_device.specs.Devices.{Over, Reader, read_words}
 use Rattle.bd_io_device.specs.declared.reading.ReadFault.{ReadFault}
@@ -10,12 +10,13 @@ use Rattle.bd_extjson_fault.specs.declared.json_fault.JsonFault.{JsonFault}
 use Rattle.bd_extjson_fault.specs.declared.json_fault.JsonFaultKind.TheVariants.{NotADocument}
 use Rattle.bd_cursor_request.specs.{Request.Request, declared.token.Token.Token}
 use Rattle.bd_cli_args.specs.FindOptions.{FindOptions}
+use Rattle.bd_cli_args.specs.declared.wide_line.Form.{Form}
 use Rattle.bd_cli_print.specs.Printer.{IsNamedText}
 use Rattle.bd_cli_scan.specs.{Input.ReadsInput, Run.Run, Run.partial_run, Output.fault_text, Output.refusal_output}
-use Rattle.bd_cli_find.specs.{Find.found_run, Options.json_fault_text, Options.requested_with}
+use Rattle.bd_cli_find.specs.{Find.Printing, Find.each_document, Find.found_run, Find.their_count, Options.json_fault_text, Options.requested_with}
 use Rattle.bd_wide_number.specs.declared.number.Number.{Number}
 use Rattle.bd_wide_rank.specs.{Rank.AreDistinct, Rank.HaveSame, Rank.code, Worth.worth}
-use Rattle.bd_wide_copy.specs.{Dump.AreJoinedBy, Dump.IsCopyOfDump, Dump.IsFirstFault, Numbers.document_numbers}
+use Rattle.bd_wide_copy.specs.{Dump.AreJoinedBy, Dump.IsCopyOfDump, Dump.IsDocumentAt, Dump.IsFirstFault, Numbers.document_numbers}
 use Rattle.bd_wide_order.specs.Ranks.{TypesAlike}
 use Rattle.bd_wide_substitute.specs.Both.{IsRead, IsUnread}
 use Rattle.bd_wide_query.specs.{Coded.coded_query, Coded.valued_query, Nan.beside_nan}
@@ -125,22 +126,30 @@ pub data FindCase (options : FindOptions) (file : Over Reader) : Type 0 where
   refused_over : (a : IsAccepted options) (bytes message : List ℕ) → ReadsInput file (Ok bytes) → HasValues a.numbers bytes
       → IsRefusedOver options a.numbers a.wholes a.texts bytes message → FindCase options file
 
--- the run of a case: its message alone, or the first batch of the documents that are found, as they are in the dump
-abbrev pub case_run : {options : FindOptions} {file : Over Reader} → FindCase options file → Run
-case_run (refused message _ _) = partial_run (refusal_output message)
-case_run (unread fault _ _) = partial_run (refusal_output (read_words fault))
-case_run (faulty bytes fault _ _ _) = partial_run (refusal_output (fault_text fault.document (fault_view fault)))
-case_run {options} (plain a bytes ds _ _ _) = found_run (IsNamedText ds) options.batch (a.request, a.token) bytes ds
-case_run {options} (by_value a bytes _ _ over) =
-    found_run (IsWideText bytes) options.batch (request_by_value over.table over.requests.request over.requests.coded, over.requests.token)
-    over.copy over.ds
-case_run (refused_over a bytes message _ _ _) = partial_run (refusal_output message)
+-- what a form prints of the documents that are found, by their texts or their bytes: these texts, one a line; these bytes, joined; or
+-- how many documents they are
+abbrev pub printing_in : Form → (ℕ → List ℕ → Type 0) → (ℕ → List ℕ → Type 0) → Printing
+printing_in Form.Lines IsText AreBytes = each_document IsText (10 ∷ [])
+printing_in Form.Bson IsText AreBytes = each_document AreBytes []
+printing_in Form.Count IsText AreBytes = their_count
+
+-- the run of a case in a form: its message alone, or the first batch of the documents that are found, as they are in the dump
+abbrev pub case_run : {options : FindOptions} {file : Over Reader} → Form → FindCase options file → Run
+case_run form (refused message _ _) = partial_run (refusal_output message)
+case_run form (unread fault _ _) = partial_run (refusal_output (read_words fault))
+case_run form (faulty bytes fault _ _ _) = partial_run (refusal_output (fault_text fault.document (fault_view fault)))
+case_run {options} form (plain a bytes ds _ _ _) =
+    found_run (printing_in form (IsNamedText ds) (IsDocumentAt bytes)) options.batch (a.request, a.token) bytes ds
+case_run {options} form (by_value a bytes _ _ over) =
+    found_run (printing_in form (IsWideText bytes) (IsDocumentAt bytes)) options.batch
+    (request_by_value over.table over.requests.request over.requests.coded, over.requests.token) over.copy over.ds
+case_run form (refused_over a bytes message _ _ _) = partial_run (refusal_output message)
 
 -- A run of `find` is that of its case; or memory ran out before anything was printed, and the file was read to its end or not at all.
-abbrev pub wide_find_run : FindOptions → Over Reader → Run
-wide_find_run options file = record {
-  IsOutput = λ output. (c : FindCase options file) × (case_run c).IsOutput output;
-  IsNext = λ text piece. (c : FindCase options file) × (case_run c).IsNext text piece;
-  IsBegun = λ text. ((c : FindCase options file) × (case_run c).IsBegun text)
+abbrev pub wide_find_run : Form → FindOptions → Over Reader → Run
+wide_find_run form options file = record {
+  IsOutput = λ output. (c : FindCase options file) × (case_run form c).IsOutput output;
+  IsNext = λ text piece. (c : FindCase options file) × (case_run form c).IsNext text piece;
+  IsBegun = λ text. ((c : FindCase options file) × (case_run form c).IsBegun text)
       ⊎ ((text ≡ []) × ((file.after ≡ file.before) ⊎ ((bytes : List ℕ) × ReadsInput file (Ok bytes))));
 }

@@ -1,45 +1,47 @@
 //! `find` over documents of all types: numbers match, and are sorted, by their values.
 
-ghost use Rattle.std.specs.Prelude.{◌≡◌, List, Ok, true};
-ghost use Rattle.bd_value.specs.Tree.{Doc};
+ghost use Rattle.std.specs.Prelude.{◌≡◌, ◌<◌, ◌≤◌, ℕ, List, Ok, length, true};
+ghost use Rattle.bd_value.specs.{Limits.greatest_count, Tree.Doc};
 ghost use Rattle.bd_bson_check.specs.Dump.{IsDump};
+ghost use Rattle.bd_bson_dump.specs.Collection.{bytes_of as bytes_of_dump, documents};
 ghost use Rattle.bd_io_device.specs.Devices.{Over, Reader, over};
 ghost use Rattle.bd_cursor_request.specs.Request.{request_view};
 ghost use Rattle.bd_cli_scan.specs.{Input.ReadsInput, Input.ReadsNoFurther, Run.Prints};
 ghost use Rattle.bd_cli_print.specs.Printer.{IsNamedText};
 ghost use Rattle.bd_cli_find.specs.{Find.found_run, Options.fits_batch};
-ghost use Rattle.bd_wide_copy.specs.Dump.{AreDocuments, bytes_of};
-ghost use Rattle.bd_wide_find.specs.Find.{wide_find_run};
+ghost use Rattle.bd_wide_copy.specs.Dump.{AreDocuments, IsDocumentAt, bytes_of};
+ghost use Rattle.bd_wide_find.specs.Find.{printing_in, wide_find_run};
 ghost use Rattle.bd_wide_find.specs.inside.Fault.{IsReported};
 ghost use Rattle.bd_wide_find.specs.inside.Question.{ReadsOptions};
 
 use crate::coded::{Coded, code};
 use crate::load::load_wide;
-use crate::printer::WidePrinter;
+use crate::printer::{NamedBytes, WideBytes, WidePrinter};
 use crate::question::{Question, read_question};
-use bd_bson_dump::read_dump;
-use bd_cli_args::FindOptions;
+use bd_bson_dump::{Dump, read_dump};
+use bd_cli_args::{FindOptions, Form};
 use bd_cli_files::load::report_load_fault;
-use bd_cli_find::{Search, SearchFault, print_found, report_refused};
-use bd_cli_print::NamedPrinter;
+use bd_cli_find::{Search, SearchFault, print_count, print_found, report_refused};
+use bd_cli_print::{NamedPrinter, PlacePrinter};
 use bd_cli_scan::Status;
 use bd_cli_scan::output::{report_error, report_no_memory};
 use bd_io_device::{Input, Output};
 use bd_wide_copy::WideDump;
 use std::alloc::Global;
 
-/// Reads the whole input unless an option is refused, and prints the first batch of the requested documents;
+/// Reads the whole input unless an option is refused, and prints the first batch of the requested documents in this form;
 /// without a size, all of them. Nothing is written to standard output if the input is not a dump.
 pub fn find<R: Input, O: Output, E: Output>(
     alloc: Global,
     program: &str,
+    form: Form,
     options: &FindOptions,
     input: &mut R,
     out: &mut O,
     err: &mut E,
 ) -> Status
     ensures found { Prints program.now
-        (wide_find_run options.now (over R.state input.old input.new))
+        (wide_find_run form options.now (over R.state input.old input.new))
         (over O.state out.old out.new) (over E.state err.old err.new) result }
     ensures stops_reading { ReadsNoFurther R.read_gives input.old input.new }
 {
@@ -48,7 +50,7 @@ pub fn find<R: Input, O: Output, E: Output>(
         Err(fault) => return report_fault(alloc, program, &fault, err),
     };
     match load_wide(alloc, input) {
-        Ok(dump) => answer(alloc, program, options, question, dump, out, err),
+        Ok(dump) => answer(alloc, program, form, options, question, dump, out, err),
         Err(fault) => report_load_fault(alloc, program, &fault, err),
     }
 }
@@ -57,6 +59,7 @@ pub fn find<R: Input, O: Output, E: Output>(
 fn answer<O: Output, E: Output>(
     alloc: Global,
     program: &str,
+    form: Form,
     options: &FindOptions,
     question: Question,
     dump: WideDump,
@@ -66,21 +69,23 @@ fn answer<O: Output, E: Output>(
     requires requests { ReadsOptions options.now question }
     requires documents { AreDocuments (bytes_of dump) }
     ensures { (file : Over Reader) → ReadsInput file (Ok (bytes_of dump)) →
-        Prints program.now (wide_find_run options.now file)
+        Prints program.now (wide_find_run form options.now file)
         (over O.state out.old out.new) (over E.state err.old err.new) result }
 {
     let Question { query, search } = question;
     if query.numbers.is_empty() && dump.is_plain() {
-        return answer_plain(alloc, program, options, search, dump, out, err);
+        return answer_plain(alloc, program, form, options, search, dump, out, err);
     }
     match code(alloc, options, &query, &dump) {
-        Ok(Coded { search, copy }) => print_found(
+        Ok(Coded { search, copy }) => print_form(
             alloc,
             program,
+            form,
             copy,
             search,
             options.batch,
             &WidePrinter { dump: &dump },
+            &WideBytes { dump: &dump },
             out,
             err,
         ),
@@ -92,6 +97,7 @@ fn answer<O: Output, E: Output>(
 fn answer_plain<O: Output, E: Output>(
     alloc: Global,
     program: &str,
+    form: Form,
     options: &FindOptions,
     search: Search,
     dump: WideDump,
@@ -101,22 +107,57 @@ fn answer_plain<O: Output, E: Output>(
     requires plain { (ds : List Doc) × IsDump ds (bytes_of dump) }
     requires fits { fits_batch options.now.batch ≡ true }
     ensures { (ds : List Doc) → IsDump ds (bytes_of dump) →
-        Prints program.now (found_run (IsNamedText ds) options.now.batch
+        Prints program.now (found_run
+        (printing_in form (IsNamedText ds) (IsDocumentAt (bytes_of dump))) options.now.batch
         (request_view search.request, search.token) (bytes_of dump) ds)
         (over O.state out.old out.new) (over E.state err.old err.new) result }
 {
-    match read_dump(alloc, dump.into_bytes()) {
-        Ok(dump) => print_found(
+    let (bytes, starts) = dump.into_parts();
+    match read_dump(alloc, bytes) {
+        Ok(dump) => print_form(
             alloc,
             program,
+            form,
             dump,
             search,
             options.batch,
             &NamedPrinter,
+            &NamedBytes { starts: &starts },
             out,
             err,
         ),
         Err(_) => report_no_memory(program, err),
+    }
+}
+
+/// Prints the first batch of a search in this form: by a printer of texts, or by one of bytes.
+fn print_form<T: PlacePrinter, B: PlacePrinter, O: Output, E: Output>(
+    alloc: Global,
+    program: &str,
+    form: Form,
+    dump: Dump,
+    search: Search,
+    size: Option<u32>,
+    texts: &T,
+    bytes: &B,
+    out: &mut O,
+    err: &mut E,
+) -> Status
+    requires within_limit { length (documents dump) ≤ greatest_count }
+    requires fits { fits_batch size ≡ true }
+    requires texts { (place : ℕ) → place < length (documents dump) →
+        T.can_print texts.now dump place }
+    requires bytes { (place : ℕ) → place < length (documents dump) →
+        B.can_print bytes.now dump place }
+    ensures { Prints program.now (found_run
+        (printing_in form (T.is_text texts.now dump) (B.is_text bytes.now dump)) size
+        (request_view search.request, search.token) (bytes_of_dump dump) (documents dump))
+        (over O.state out.old out.new) (over E.state err.old err.new) result }
+{
+    match form {
+        Form::Lines => print_found(alloc, program, dump, search, size, texts, b"\n", out, err),
+        Form::Bson => print_found(alloc, program, dump, search, size, bytes, b"", out, err),
+        Form::Count => print_count(alloc, program, dump, search, size, out, err),
     }
 }
 

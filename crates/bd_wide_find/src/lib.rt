@@ -22,7 +22,7 @@
 //! let mut out = MemoryOutput::new(&mut buffer, 100, None);
 //! let mut reported = [0; 200];
 //! let mut err = MemoryOutput::new(&mut reported, 200, None);
-//! let status = find(alloc, "bsonwide", &options, &mut file, &mut out, &mut err);
+//! let status = find(alloc, "bsonwide", Form::Lines, &options, &mut file, &mut out, &mut err);
 //! assert!(rt; status == Status::Done);
 //! assert!(rt; out.bytes() == b"{\"a\":{\"$numberDouble\":\"1.5\"}}\n".as_slice());
 //! ```
@@ -32,7 +32,8 @@
 //! - `load`: `load_wide`, a dump of all types in memory: `specs/Load.antt`.
 //! - `coded`: the search with codes, and the copy that is searched: `specs/Coded.antt`.
 //! - `types`: whether a query distinguishes the types of numbers: `specs/Types.antt`.
-//! - `printer`: `WidePrinter`, which prints the documents of the dump: `specs/Printer.antt`.
+//! - `printer`: `WidePrinter`, which prints the documents of the dump: `specs/Printer.antt`; `WideBytes` and `NamedBytes`, which print
+//!   their bytes.
 //! - `laws`: a request with codes selects of the copy what the request by value selects of the documents.
 #![tactic(auto)]
 
@@ -47,5 +48,5 @@ mod types;
 pub use coded::{beside_nan, coded_copy, table_of};
 pub use laws::coded_copies_answer_by_value;
 pub use load::load_wide;
-pub use printer::WidePrinter;
+pub use printer::{NamedBytes, WideBytes, WidePrinter};
 pub use types::takes_types_alike;

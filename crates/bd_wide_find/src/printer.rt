@@ -1,13 +1,14 @@
-//! The texts of the documents of a dump of all types, each by its place.
+//! The texts and the bytes of the documents of a dump of all types, each by its place.
 
 ghost use Rattle.std.specs.Prelude.{◌<◌, ℕ};
-ghost use Rattle.bd_wide_copy.specs.Dump.{IsCount, bytes_of};
+ghost use Rattle.bd_bson_dump.specs.Collection.{bytes_of as bytes_of_dump};
+ghost use Rattle.bd_wide_copy.specs.Dump.{AreStartsOf, IsCount, IsDocumentAt, bytes_of};
 ghost use Rattle.bd_wide_find.specs.Printer.{IsWideText};
 
 use bd_bson_dump::Dump;
 use bd_cli_print::PlacePrinter;
-use bd_extjson_text::End;
-use bd_wide_copy::WideDump;
+use bd_extjson_text::{End, append_few};
+use bd_wide_copy::{Starts, WideDump};
 use bd_wide_dump::{JsonFormat, append_wide};
 
 /// Prints the documents of a dump of all types at the places of a copy of it, in which each document has the same number.
@@ -31,5 +32,43 @@ impl PlacePrinter for WidePrinter<'_> {
             buffer,
             end,
         )
+    }
+}
+
+/// Prints the bytes of the documents of a dump of all types, at the places of a copy of it.
+#[derive(Clone, Copy)]
+pub struct WideBytes<'a> {
+    /// The dump of all types, and not the copy.
+    pub dump: &'a WideDump,
+}
+
+impl PlacePrinter for WideBytes<'_> {
+    ghost can_print = { λ printer _ place.
+        (count : ℕ) × IsCount (bytes_of printer.dump.now) count × (place < count) };
+
+    ghost is_text = { λ printer _ place text. IsDocumentAt (bytes_of printer.dump.now) place text };
+
+    #[inline(always)]
+    fn append(&self, _copy: &Dump, place: u32, buffer: &mut Vec<u8>, end: usize) -> End {
+        append_few(self.dump.document(place), buffer, end)
+    }
+}
+
+/// Prints the bytes of the documents of the dump itself.
+#[derive(Clone, Copy)]
+pub struct NamedBytes<'a> {
+    /// Where the documents of the dump begin.
+    pub starts: &'a Starts,
+}
+
+impl PlacePrinter for NamedBytes<'_> {
+    ghost can_print = { λ printer dump place. AreStartsOf printer.starts.now (bytes_of_dump dump)
+        × ((count : ℕ) × IsCount (bytes_of_dump dump) count × (place < count)) };
+
+    ghost is_text = { λ _ dump place text. IsDocumentAt (bytes_of_dump dump) place text };
+
+    #[inline(always)]
+    fn append(&self, dump: &Dump, place: u32, buffer: &mut Vec<u8>, end: usize) -> End {
+        append_few(self.starts.document(dump.bytes(), place), buffer, end)
     }
 }

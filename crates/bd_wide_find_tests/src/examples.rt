@@ -1,7 +1,7 @@
 //! The example of the crate's documentation, and a document that is printed.
 
 use bd_bson_dump::read_dump;
-use bd_cli_args::FindOptions;
+use bd_cli_args::{FindOptions, Form};
 use bd_cli_print::PlacePrinter;
 use bd_cli_scan::Status;
 use bd_io_device::{MemoryInput, MemoryOutput};
@@ -45,7 +45,15 @@ fn find_by_value(rt: HostRuntime) -> Result<(), Fail> {
     let mut out = MemoryOutput::new(&mut buffer, 100, None);
     let mut reported = [0; 200];
     let mut err = MemoryOutput::new(&mut reported, 200, None);
-    let status = find(alloc, "bsonwide", &options, &mut file, &mut out, &mut err);
+    let status = find(
+        alloc,
+        "bsonwide",
+        Form::Lines,
+        &options,
+        &mut file,
+        &mut out,
+        &mut err,
+    );
     assert!(rt; status == Status::Done);
     assert!(rt; out.bytes() == b"{\"a\":{\"$numberDouble\":\"1.5\"}}\n".as_slice());
     Ok(())

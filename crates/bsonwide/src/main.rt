@@ -32,7 +32,11 @@ impl Program for Bsonwide {
             }
             WideOrder::Check { file } => Ok((Command::Check, file)),
             WideOrder::Pack { file } => Ok((Command::Pack, file)),
-            WideOrder::Find { file, options } => Ok((Command::Find(options), file)),
+            WideOrder::Find {
+                file,
+                options,
+                form,
+            } => Ok((Command::Find(options, form), file)),
             WideOrder::Serve { file } => Ok((Command::Serve, file)),
             WideOrder::Order { file, paths } => {
                 Ok((Command::Order(read_order(alloc, &paths)?), file))

@@ -3,14 +3,16 @@ use Rattle.std.specs.Prelude.{◌≡◌, ◌≤◌, ◌<◌, ℕ, true, List, []
 use Rattle.std.specs.Prelude.{Ok, Err}
 use Rattle.std.specs.{List.All}
 use Rattle.bd_value.specs.{Limits.greatest_count}
-use Rattle.bd_cursor_model.specs.Session.{IndexKey, OpenCursor, Query, State, cursor_of, has_index}
+use Rattle.bd_cursor_model.specs.Answer.{at_most, is_empty}
+use Rattle.bd_cursor_model.specs.Session.{GivenBatch, IndexKey, OpenCursor, Query, State, cursor_of, has_index, token_after}
+use Rattle.bd_cursor.specs.SessionView.{given_batch}
 use Rattle.bd_cursor.specs.{Access.Way, Access.by_none, Access.by_one}
-use Rattle.bd_cursor_request.specs.{declared.results.Refused.Refused, declared.token.Token.Token}
+use Rattle.bd_cursor_request.specs.{declared.results.Batch.Batch, declared.results.Refused.Refused, declared.token.Token.Token}
 use Rattle.bd_cursor_request.specs.Refused.{IsRefusedPart}
 use Rattle.bd_io_device.specs.Devices.{Over, TakesText, WriteFailsAfter, Writer}
 use Rattle.bd_cli_scan.specs.declared.output.OutputFault.{OutputFault}
 use Rattle.bd_cli_scan.specs.declared.output.OutputFault.TheVariants.{NoMemory, Unwritten}
-use Rattle.bd_cli_find.specs.Find.{AreFirstLines, AreLinesAt, IsNextLine, places_from, cursor_for}
+use Rattle.bd_cli_find.specs.Find.{AreFirstPieces, ArePieces, IsNextPiece, places_from, cursor_for, remaining_over}
 
 -- the state of a session in which no cursor was opened
 abbrev pub before_first : List IndexKey → State
@@ -41,12 +43,24 @@ pub record IsReady (s : State) (id : ℕ) (count : ℕ) : Type 0 where
   pub inside : All (λ p. p < count) cursor.remaining
   pub few : length cursor.remaining ≤ greatest_count
 
--- The writer took the lines of the documents at these places.
-abbrev pub WritesLines : (ℕ → List ℕ → Type 0) → List ℕ → Over Writer → Type 0
-WritesLines IsText ps out = (lines : List ℕ) × AreLinesAt IsText ps lines × TakesText out lines
+-- What a session returns is the first batch of the cursor.
+pub record IsBatchOf (size : Option ℕ) (c : OpenCursor) (b : GivenBatch) : Type 0 where
+  pub places : b.places ≡ at_most size c.remaining
+  pub ends : b.ends ≡ is_empty (remaining_over size c.remaining)
+  pub token : b.token ≡ token_after c.digest c.token (at_most size c.remaining)
 
--- The writer took the lines of the documents at the first of these places, and then memory ran out, or a write failed in the next line.
+-- The first batch of a query that may resume after a token; or it is refused, or memory ran out.
+abbrev pub IsFirstBatch : Option ℕ → Query → Option Token → Result Batch Refused → Type 0
+IsFirstBatch size q token (Ok batch) =
+    (ps : List ℕ) × (places_from q token ≡ Ok ps) × IsBatchOf size (cursor_for 1 q token ps) (given_batch batch)
+IsFirstBatch size q token (Err refused) = IsRefusedPart (places_from q token) refused
+
+-- The writer took the pieces for these places.
+abbrev pub WritesPieces : (ℕ → List ℕ → Type 0) → List ℕ → Over Writer → Type 0
+WritesPieces IsPiece ps out = (text : List ℕ) × ArePieces IsPiece ps text × TakesText out text
+
+-- The writer took the pieces for the first of these places, and then memory ran out, or a write failed in the next.
 abbrev pub StopsAmong : (ℕ → List ℕ → Type 0) → List ℕ → Over Writer → OutputFault → Type 0
-StopsAmong IsText ps out NoMemory = (lines : List ℕ) × AreFirstLines IsText ps lines × TakesText out lines
-StopsAmong IsText ps out Unwritten =
-    (lines : List ℕ) × (next : List ℕ) × IsNextLine IsText ps lines next × WriteFailsAfter out lines next
+StopsAmong IsPiece ps out NoMemory = (text : List ℕ) × AreFirstPieces IsPiece ps text × TakesText out text
+StopsAmong IsPiece ps out Unwritten =
+    (text : List ℕ) × (next : List ℕ) × IsNextPiece IsPiece ps text next × WriteFailsAfter out text next

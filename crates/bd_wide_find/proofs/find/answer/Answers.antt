@@ -12,15 +12,20 @@ pub returns-then-is_plain : goal.returns-then-is_plain
 returns-then-is_plain g c = λ file read.
     let (ds, dump) = c.is_plain.ensures.0 c.if-is_plain.true in
     let none : c.args.question.query.numbers.items ≡ [] = search (rules, nat_tests, nil_from_length) in
-    plain_run c.args.options.now c.args.question c.requires.requests c.args.program.now file (bytes_of c.args.dump) read ds none dump (c.answer_plain.ensures ds dump)
+    plain_run c.args.options.now c.args.question c.requires.requests c.args.form c.args.program.now file (bytes_of c.args.dump) read ds none dump (c.answer_plain.ensures ds dump)
 
-pub print_found-requires-clause-within_limit : goal.print_found-requires-clause-within_limit
-print_found-requires-clause-within_limit g c =
+pub print_form-requires-clause-within_limit : goal.print_form-requires-clause-within_limit
+print_form-requires-clause-within_limit g c =
     let s = c.in-Ok.ensures.coded in
     few_copied (bytes_of c.args.dump) s.table c.in-Ok.field-0.copy s.ds s.has.are s.copies
 
-pub print_found-requires-clause-printable : goal.print_found-requires-clause-printable
-print_found-requires-clause-printable g c =
+pub print_form-requires-clause-texts : goal.print_form-requires-clause-texts
+print_form-requires-clause-texts g c =
+    let s = c.in-Ok.ensures.coded in
+    can_print_copied (bytes_of c.args.dump) s.table c.in-Ok.field-0.copy s.ds s.has.are s.copies
+
+pub print_form-requires-clause-bytes : goal.print_form-requires-clause-bytes
+print_form-requires-clause-bytes g c =
     let s = c.in-Ok.ensures.coded in
     can_print_copied (bytes_of c.args.dump) s.table c.in-Ok.field-0.copy s.ds s.has.are s.copies
 
@@ -34,8 +39,8 @@ returns-in-Ok g c = λ file read.
           omega (arith, c.args.question.query.numbers.ok.0, ap (λ (xs : List Number). length xs) none) in
           true≢false (sym (ap (λ (n : ℕ). n == 0) zero) ∙ sym c.is_empty.ensures ∙ w.if-is_empty.false)
     ] in
-    by_value_run c.args.options.now c.args.question c.requires.requests c.args.program.now file (bytes_of c.args.dump) read c.in-Ok.field-0 c.in-Ok.ensures.coded
-    values c.options.inside.batch batch c.print_found.ensures
+    by_value_run c.args.options.now c.args.question c.requires.requests c.args.form c.args.program.now file (bytes_of c.args.dump) read c.in-Ok.field-0 c.in-Ok.ensures.coded
+    values c.options.inside.batch batch c.print_form.ensures
 
 pub returns : goal.returns
 returns g c = λ file read.
@@ -46,5 +51,5 @@ returns g c = λ file read.
           omega (arith, c.args.question.query.numbers.ok.0, ap (λ (xs : List Number). length xs) none) in
           true≢false (sym (ap (λ (n : ℕ). n == 0) zero) ∙ sym c.is_empty.ensures ∙ w.if-is_empty.false)
     ] in
-    refused_run c.args.options.now c.args.question c.requires.requests c.args.program.now file (bytes_of c.args.dump) read values (g.O.Output.state c.args.out.now)
+    refused_run c.args.options.now c.args.question c.requires.requests c.args.form c.args.program.now file (bytes_of c.args.dump) read values (g.O.Output.state c.args.out.now)
     (g.E.Output.state c.args.err.now) (g.E.Output.state c.report_fault.new.err) c.report_fault.result c.in-Err.fault c.in-Err.ensures.fault c.report_fault.ensures
