@@ -22,7 +22,15 @@
 //! let mut out = MemoryOutput::new(&mut buffer, 100, None);
 //! let mut reported = [0; 200];
 //! let mut err = MemoryOutput::new(&mut reported, 200, None);
-//! let status = find(alloc, "bsonwide", Form::Lines, &options, &mut file, &mut out, &mut err);
+//! let status = find(
+//!     alloc,
+//!     "bsonwide",
+//!     Form::Lines,
+//!     &options,
+//!     &mut file,
+//!     &mut out,
+//!     &mut err,
+//! );
 //! assert!(rt; status == Status::Done);
 //! assert!(rt; out.bytes() == b"{\"a\":{\"$numberDouble\":\"1.5\"}}\n".as_slice());
 //! ```
