@@ -22,7 +22,6 @@ use std::alloc::Global;
 /// not a dump of documents of all types.
 ///
 /// It takes the memory of the dump; if it has a double or a decimal128, also that of a copy, and of each distinct number.
-// Inlined, it would make the stack of all commands larger than the system gives at first.
 pub fn serve<F: Input, C: Input, O: Output, E: Output>(
     alloc: Global,
     program: &str,
