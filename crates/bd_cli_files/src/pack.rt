@@ -102,7 +102,7 @@ fn pack_input<P: LinePacker, R: Input>(
     ensures stops_reading { ReadsNoFurther R.read_gives input.old input.new }
 {
     let mut partial = Vec::new(alloc);
-    let mut block = [0u8; 65536];
+    let mut block = [0u8; 16384];
     let mut remaining = LONGEST_INPUT;
     loop {
         let Ok(n) = input.read(&mut block) else {
