@@ -45,7 +45,7 @@ WORDS = {
     "shown shows show": ("output, prints", ""),
     "stands stand": ("meaning, is_at", ""),
     # An index is walked.
-    "walk walks walked": ("scan, path_walk", "bd_index bd_cursor bd_cursor_sort bd_cli_service bd_growth_tests bd_query_tests bd_cli_args path_walk* PathWalk*"),
+    "walk walks walked": ("scan, path_walk", "bd_index bd_cursor bd_cursor_sort bd_cli_service bd_growth_tests bd_query_tests bd_cli_args bd_wide_service path_walk* PathWalk*"),
     "mark marks": ("position, index_key, pivot", ""),
     "past": ("skip, after, beyond", ""),
     # Levels that are left; the left one of two.

@@ -18,6 +18,7 @@ use Rattle.bd_wide_order.proofs.ReachLemmas.{passing_over}
 abbrev pub as_int64 : Codes
 as_int64 path = record { becomes = λ n. n; occurs = λ n. true }
 
+-- numbers keep their order as int64
 pub stay_in_order : KeepOrder as_int64
 stay_in_order = λ path m n found. ((λ l. l), (λ l. l))
 
@@ -48,6 +49,7 @@ module _ (table : List ℤ) where
   document_widens [] = refl
   document_widens (p ∷ ps) = ap₂ (λ (t : Tree) (qs : Doc). (p.0, t) ∷ qs) (value_widens p.1) (document_widens ps)
 
+  -- the copies of documents, with their codes as int64, are the renumbered documents
   pub documents_widen : (ds : List Doc) → renumber_documents as_int64 (coded_documents (int32_of (code table)) ds) ≡ renumber_documents (table_codes table) ds
   documents_widen [] = refl
   documents_widen (d ∷ ds) = ap₂ ◌∷◌ (document_widens d) (documents_widen ds)

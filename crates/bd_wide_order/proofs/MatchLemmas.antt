@@ -197,6 +197,7 @@ abbrev pub HaveAll : Codes → Type 0
 HaveAll c = (path : Names) (n : ℤ) → IsTrue ((c path).occurs n)
 
 mutual
+  -- where every number may occur, the numbers of any value may
   pub is_of_all : (c : Codes) → HaveAll c → (t : Tree) → IsOf c t
   is_of_all c all (leaf (int32 n)) = all [] n
   is_of_all c all (leaf (int64 n)) = all [] n

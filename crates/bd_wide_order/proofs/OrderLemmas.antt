@@ -88,6 +88,7 @@ class_stays c (code_scope s fs) = refl
 class_stays c (leaf trees.min_key) = refl
 class_stays c (leaf _) = refl
 
+-- renumbered values compare by class as the values do
 pub classes_stay : (c d : Codes) (a b : Tree) → class_cmp (renumber c a) (renumber d b) ≡ class_cmp a b
 classes_stay c d a b = ap₂ nat_cmp (class_stays c a) (class_stays d b)
 

@@ -15,11 +15,13 @@ use Rattle.bd_wide_order.proofs.MatchLemmas.{match_stays}
 
 -- ---- codes
 
+-- ranks in a table keep the order of the numbers
 pub ranks_keep_order : (table : List ℤ) → KeepOrder (table_codes table)
 ranks_keep_order table = λ path m n found. codes_rise table m n found
 
 -- ---- filters
 
+-- ranks in a table are the same at each path
 pub all_read_alike : (table : List ℤ) (path : Names) → ReadsAlike (table_codes table) path
 all_read_alike table path = passing_over (table_codes table) (λ before name after e. refl) path
 

@@ -307,6 +307,7 @@ module _ (c : Codes) (up : KeepOrder c) (p : Names) (lead : ReadsAlike c p) wher
   up_below : KeepOrder (below p c)
   up_below = λ names. up (p ++ names)
 
+  -- the keys of a renumbered value are the renumbered keys of the value
   pub keys_stay : (sparse : Bool) (t : Tree) → IsOf c t → indexed_keys sparse (renumber c t) p ≡ map (renumber (below p c)) (indexed_keys sparse t p)
   keys_stay sparse t a = ap distinct (all_stay c sparse t p lead) ∙ distinct_stay (below p c) up_below (all_keys sparse t p) (all_are_of c sparse t p lead a)
 

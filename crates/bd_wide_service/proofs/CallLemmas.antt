@@ -1,20 +1,21 @@
 -- A search with codes, and the call over the copy of a dump that is the call by value.
 use Rattle.std.proofs.Common.{◌≡◌, ◌∙◌, ◌⊎◌, ℕ, List, Result, Ok, Err, refl, sym, ap, ap₂, subst, inl, inr}
 use Rattle.std.specs.Global.{Global}
-use Rattle.std.specs.Prelude.{ℤ, String, true, false}
+use Rattle.std.specs.Prelude.{ℤ, String, string_bytes, true, false}
 use Rattle.bd_value.specs.Tree.{Doc, doc, fields_of}
 use Rattle.bd_value.specs.{Fits.Fits, View.pairs}
 use Rattle.bd_bson_dump.specs.Collection.{bytes_of as bytes_of_dump, documents}
 use Rattle.bd_bson_dump.specs.declared.collection.Dump.{Dump}
-use Rattle.bd_cursor_model.specs.Session.{Query, find_call, resume_call}
+use Rattle.bd_cursor_model.specs.Session.{Call, IndexCounts, IndexKey, Query, explain_call, find_call, make_call, resume_call}
+use Rattle.bd_path.specs.Path.{path_of}
 use Rattle.bd_cursor_request.specs.Refused.{Reason, error_as, then_part}
 use Rattle.bd_cursor_request.specs.{Request.Request, Request.named_index, Request.request_of, Request.request_text, Request.request_view, Request.token_part}
 use Rattle.bd_cursor_request.specs.declared.request.Request.{Request as RequestInMemory}
 use Rattle.bd_cursor_request.specs.declared.token.Token.{Token}
 use Rattle.bd_cursor_sort.specs.Selection.{query_of, query_to}
-use Rattle.bd_cursor.specs.{Access.Way, Access.way_of, declared.access.Choice.Choice}
-use Rattle.bd_cursor.specs.SessionView.{hint_of, path_named, positioned_token}
-use Rattle.bd_cli_command.specs.Command.{Command, FindCommand, command_tree, finds, find_tree, hint_tree, resumes}
+use Rattle.bd_cursor.specs.{Explanation.explanation_for, Explanation.index_counts, Access.Way, Access.way_of, declared.access.Choice.Choice}
+use Rattle.bd_cursor.specs.SessionView.{explain_request, hint_of, path_named, positioned_token}
+use Rattle.bd_cli_command.specs.Command.{Command, FindCommand, command_tree, explains, finds, find_tree, hint_tree, resumes}
 use Rattle.bd_cli_command.specs.CommandOf.{command_of}
 use Rattle.bd_cli_command.specs.declared.command.Command.{Command as CommandInMemory}
 use Rattle.bd_cli_command.specs.declared.command.Command.TheVariants as memory
@@ -32,7 +33,8 @@ use Rattle.bd_wide_query.proofs.AlikeLemmas.{alike_back, alike_kept}
 use Rattle.bd_wide_find.specs.{Find.request_by_value, Types.fields_are_alike}
 use Rattle.bd_wide_find.proofs.{AnswerLemmas.coded_answers, AnswerLemmas.refusals_stay, AnswerLemmas.requests_are_read}
 use Rattle.bd_wide_find.proofs.{NumberLemmas.numbers_are_of, TypesLemmas.alike_renumbered}
-use Rattle.bd_wide_service.specs.Call.{ByValue, IsCall, IsNoCall, IsNoCommandIn, IsNoSearch, IsSearch, coded_search, copies, search_by_value, types_refusal}
+use Rattle.bd_wide_service.specs.Call.{ByValue, IsCall, IsNoCall, IsNoCommandIn, IsNoSearch, IsSearch, coded_search, search_by_value, types_refusal}
+use Rattle.bd_wide_service.proofs.{ExplainLemmas.explained_by_value, IndexLemmas.counts_by_value}
 use Rattle.bd_wide_service.specs.inside.Call.{IsOver, RefusesWide, SearchesBy}
 use Rattle.bd_wide_service.specs.declared.call.WideCallFault.{WideCallFault}
 use Rattle.bd_wide_service.specs.declared.call.WideCallFault.TheVariants as faults
@@ -193,14 +195,22 @@ module _ {bytes : List ℕ} (v : ByValue bytes) (table : List ℤ) (copy : Dump)
   of_dump : (f : FindCommand) (view : Request) → SearchesBy table numbers wholes f view → SearchesBy v.table numbers wholes f view
   of_dump f view = subst (λ (t : List ℤ). SearchesBy t numbers wholes f view) (sym over.table_is)
 
-  -- the query over the copy is that by value
-  query_is : (f : FindCommand) (view r : Request) → IsSearch v.table numbers wholes f r → view ≡ renumber_request (table_codes v.table) r.text r
-      → query_to (bytes_of_dump copy) (documents copy) view ≡ query_to v.copy v.ds r
-  query_is f view r search is =
-      let alike = subst TypesAlike (ap (λ (x : Request). x.filter) (sym search.is)) (alike_kept v.table search.request.filter search.alike) in
-      ap₂ (λ (b : List ℕ) (x : Request). query_to b (documents copy) x) over.bytes_are is
-      ∙ ap (λ (ds : List Doc). query_to v.copy ds (renumber_request (table_codes v.table) r.text r)) over.documents_are
-      ∙ coded_answers v.table r alike v.ds (numbers_are_of v.table v.ds v.has.same) v.copy r.text
+  module _ (f : FindCommand) (view r : Request) (search : IsSearch v.table numbers wholes f r) (is : view ≡ renumber_request (table_codes v.table) r.text r) where
+    types_alike : TypesAlike r.filter
+    types_alike = subst TypesAlike (ap (λ (x : Request). x.filter) (sym search.is)) (alike_kept v.table search.request.filter search.alike)
+
+    -- the query over the copy is that by value
+    query_is : query_to (bytes_of_dump copy) (documents copy) view ≡ query_to v.copy v.ds r
+    query_is =
+        ap₂ (λ (b : List ℕ) (x : Request). query_to b (documents copy) x) over.bytes_are is
+        ∙ ap (λ (ds : List Doc). query_to v.copy ds (renumber_request (table_codes v.table) r.text r)) over.documents_are
+        ∙ coded_answers v.table r types_alike v.ds (numbers_are_of v.table v.ds v.has.same) v.copy r.text
+
+    -- the explanation over the copy is that by value
+    explanation_is : (way : Way) → explanation_for (documents copy) view way ≡ explanation_for v.ds r way
+    explanation_is way =
+        ap₂ (λ (ds : List Doc) (x : Request). explanation_for ds x way) over.documents_are is
+        ∙ explained_by_value v.table r types_alike v.ds (numbers_are_of v.table v.ds v.has.same) r.text way
 
   module _ (f : FindCommand) (request : RequestInMemory) (choice : Choice) (searches : SearchesBy table numbers wholes f (request_view request))
       (way : way_of choice ≡ way_by f.hint) where
@@ -217,22 +227,60 @@ module _ {bytes : List ℕ} (v : ByValue bytes) (table : List ℤ) (copy : Dump)
         let (r, search, is) = of_dump f (request_view request) searches in
         (token, r, reads, search, ap₂ (λ (q : Query) (w : Way). resume_call q (path_named w) (positioned_token token)) (query_is f (request_view request) r search is) way)
 
-  -- any other command is refused over the copy as over the dump
-  pub other_refused : (c : CommandInMemory) → ((f : FindInMemory) → c ≡ memory.Find f → ⊥) → ((t : String Global) (f : FindInMemory) → c ≡ memory.Resume t f → ⊥)
-      → ((f : FindInMemory) → c ≡ memory.Explain f → ⊥) → (fault : CallFault)
-      → RefusesPart (call_of (bytes_of_dump copy) (documents copy) (command_tree c)) fault
-      → RefusesWide (IsNoCall v numbers wholes (command_tree c)) (wide_fault fault)
-  other_refused c no_find no_resume no_explain = part_refused (call_of (bytes_of_dump copy) (documents copy) (command_tree c))
-      (IsNoCall v numbers wholes (command_tree c)) (λ why is. go c no_find no_resume no_explain why
-      (ap₂ (λ (b : List ℕ) (ds : List Doc). call_of b ds (command_tree c)) (sym over.bytes_are) (sym over.documents_are) ∙ is))
-    where
-      go : (d : CommandInMemory) → ((f : FindInMemory) → d ≡ memory.Find f → ⊥) → ((t : String Global) (f : FindInMemory) → d ≡ memory.Resume t f → ⊥)
-          → ((f : FindInMemory) → d ≡ memory.Explain f → ⊥) → (why : ReportedRefusal) → call_of v.copy (copies v) (command_tree d) ≡ Err why
-          → IsNoCall v numbers wholes (command_tree d) why
-      go (memory.CreateIndex path sparse) no_find no_resume no_explain why is = is
-      go (memory.DropIndex path) no_find no_resume no_explain why is = is
-      go (memory.GetMore id batch) no_find no_resume no_explain why is = is
-      go (memory.KillCursor id) no_find no_resume no_explain why is = is
-      go (memory.Find f) no_find no_resume no_explain why is = absurd (no_find f refl)
-      go (memory.Resume t f) no_find no_resume no_explain why is = absurd (no_resume t f refl)
-      go (memory.Explain f) no_find no_resume no_explain why is = absurd (no_explain f refl)
+    -- `explain`
+    pub is_explain : IsCall v numbers wholes (explains f) (explain_request copy request choice)
+    is_explain =
+        let (r, search, is) = of_dump f (request_view request) searches in (
+          r,
+          search,
+          ap (λ (w : Way). explain_call (path_named w) (explanation_for (documents copy) (request_view request) w)) way
+              ∙ ap (λ (e : List IndexKey → Doc). explain_call (hint_path f.hint) e) (explanation_is f (request_view request) r search is (way_by f.hint)),
+        )
+
+  -- any other command means the same over the copy as over the dump
+  other_is : (c : CommandInMemory) → ((f : FindInMemory) → c ≡ memory.Find f → ⊥) → ((t : String Global) (f : FindInMemory) → c ≡ memory.Resume t f → ⊥)
+      → ((f : FindInMemory) → c ≡ memory.Explain f → ⊥)
+      → call_of (bytes_of_dump copy) (documents copy) (command_tree c) ≡ call_of v.copy v.ds (command_tree c)
+  other_is (memory.CreateIndex path sparse) no_find no_resume no_explain =
+      let key : IndexKey = record { path = string_bytes path; is_sparse = sparse } in
+      ap (λ (counts : IndexCounts). then_part (error_as path_refusal (path_of (string_bytes path))) (λ _. Ok (make_call key counts)))
+      (ap (λ (ds : List Doc). index_counts ds key) over.documents_are ∙ counts_by_value v.table v.ds (numbers_are_of v.table v.ds v.has.same) key)
+  other_is (memory.DropIndex path) no_find no_resume no_explain = refl
+  other_is (memory.GetMore id batch) no_find no_resume no_explain = refl
+  other_is (memory.KillCursor id) no_find no_resume no_explain = refl
+  other_is (memory.Find f) no_find no_resume no_explain = absurd (no_find f refl)
+  other_is (memory.Resume t f) no_find no_resume no_explain = absurd (no_resume t f refl)
+  other_is (memory.Explain f) no_find no_resume no_explain = absurd (no_explain f refl)
+
+  module _ (c : CommandInMemory) (no_find : (f : FindInMemory) → c ≡ memory.Find f → ⊥)
+      (no_resume : (t : String Global) (f : FindInMemory) → c ≡ memory.Resume t f → ⊥) (no_explain : (f : FindInMemory) → c ≡ memory.Explain f → ⊥) where
+    -- any other command
+    pub is_other : (call : Call) → call_of (bytes_of_dump copy) (documents copy) (command_tree c) ≡ Ok call → IsCall v numbers wholes (command_tree c) call
+    is_other call is = go c no_find no_resume no_explain (sym (other_is c no_find no_resume no_explain) ∙ is)
+      where
+        go : (d : CommandInMemory) → ((f : FindInMemory) → d ≡ memory.Find f → ⊥) → ((t : String Global) (f : FindInMemory) → d ≡ memory.Resume t f → ⊥)
+            → ((f : FindInMemory) → d ≡ memory.Explain f → ⊥) → call_of v.copy v.ds (command_tree d) ≡ Ok call → IsCall v numbers wholes (command_tree d) call
+        go (memory.CreateIndex path sparse) no_find no_resume no_explain is = is
+        go (memory.DropIndex path) no_find no_resume no_explain is = is
+        go (memory.GetMore id batch) no_find no_resume no_explain is = is
+        go (memory.KillCursor id) no_find no_resume no_explain is = is
+        go (memory.Find f) no_find no_resume no_explain is = absurd (no_find f refl)
+        go (memory.Resume t f) no_find no_resume no_explain is = absurd (no_resume t f refl)
+        go (memory.Explain f) no_find no_resume no_explain is = absurd (no_explain f refl)
+
+    -- any other command is refused
+    pub other_refused : (fault : CallFault) → RefusesPart (call_of (bytes_of_dump copy) (documents copy) (command_tree c)) fault
+        → RefusesWide (IsNoCall v numbers wholes (command_tree c)) (wide_fault fault)
+    other_refused = part_refused (call_of (bytes_of_dump copy) (documents copy) (command_tree c)) (IsNoCall v numbers wholes (command_tree c))
+        (λ why is. go c no_find no_resume no_explain why (sym (other_is c no_find no_resume no_explain) ∙ is))
+      where
+        go : (d : CommandInMemory) → ((f : FindInMemory) → d ≡ memory.Find f → ⊥) → ((t : String Global) (f : FindInMemory) → d ≡ memory.Resume t f → ⊥)
+            → ((f : FindInMemory) → d ≡ memory.Explain f → ⊥) → (why : ReportedRefusal) → call_of v.copy v.ds (command_tree d) ≡ Err why
+            → IsNoCall v numbers wholes (command_tree d) why
+        go (memory.CreateIndex path sparse) no_find no_resume no_explain why is = is
+        go (memory.DropIndex path) no_find no_resume no_explain why is = is
+        go (memory.GetMore id batch) no_find no_resume no_explain why is = is
+        go (memory.KillCursor id) no_find no_resume no_explain why is = is
+        go (memory.Find f) no_find no_resume no_explain why is = absurd (no_find f refl)
+        go (memory.Resume t f) no_find no_resume no_explain why is = absurd (no_resume t f refl)
+        go (memory.Explain f) no_find no_resume no_explain why is = absurd (no_explain f refl)

@@ -1,3 +1,6 @@
+pub mod IndexLemmas
+pub mod BoundsLemmas
+pub mod ExplainLemmas
 pub mod CallLemmas
 pub mod ServiceLemmas
 pub mod PlacesLemmas

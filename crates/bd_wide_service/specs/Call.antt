@@ -14,7 +14,7 @@ use Rattle.bd_cli_service.specs.Talk.{call_of, hint_path, request_for, way_by}
 use Rattle.bd_wide_number.specs.declared.number.Number.{Number}
 use Rattle.bd_wide_rank.specs.{Rank.code, Worth.worth}
 use Rattle.bd_wide_copy.specs.{Copy.int32_of, Dump.IsCopyOfDump, Dump.coded_documents}
-use Rattle.bd_wide_order.specs.{Query.renumber_request, Ranks.TypesAlike, Ranks.table_codes}
+use Rattle.bd_wide_order.specs.{Ranks.TypesAlike}
 use Rattle.bd_wide_substitute.specs.Both.{IsRead, IsUnread}
 use Rattle.bd_wide_query.specs.Coded.{coded_query, valued_query}
 use Rattle.bd_wide_find.specs.{Find.HasTable, Find.request_by_value, Types.fields_are_alike}
@@ -108,17 +108,16 @@ module _ (table : List ℤ) (numbers : List Number) (wholes : Doc) (f : FindComm
 -- ---- calls
 
 module _ {bytes : List ℕ} (v : ByValue bytes) (numbers : List Number) (wholes : Doc) where
-  -- A command, with empty texts in place of numbers, is this call: a search is by value, and its cursor has the digest of the copy.
-  -- `explain` and `createIndex` count in the copy.
+  -- A command, with empty texts in place of numbers, is this call, by value over the documents. Of the copy only its digest is
+  -- used, for the tokens of cursors.
   abbrev pub IsCall : Command → Call → Type 0
   IsCall (finds f) call = (r : Request) × IsSearch v.table numbers wholes f r
       × (call ≡ find_call (query_to v.copy v.ds r) (hint_path f.hint))
   IsCall (resumes token f) call = (t : Token) × (r : Request) × (token_part token ≡ Ok t) × IsSearch v.table numbers wholes f r
       × (call ≡ resume_call (query_to v.copy v.ds r) (hint_path f.hint) (positioned_token t))
   IsCall (explains f) call = (r : Request) × IsSearch v.table numbers wholes f r
-      × (call ≡ explain_call (hint_path f.hint)
-      (explanation_for (copies v) (renumber_request (table_codes v.table) r.text r) (way_by f.hint)))
-  IsCall c call = call_of v.copy (copies v) c ≡ Ok call
+      × (call ≡ explain_call (hint_path f.hint) (explanation_for v.ds r (way_by f.hint)))
+  IsCall c call = call_of v.copy v.ds c ≡ Ok call
 
   -- A command is refused; for `resume` the token is checked first.
   abbrev pub IsNoCall : Command → ReportedRefusal → Type 0
@@ -126,7 +125,7 @@ module _ {bytes : List ℕ} (v : ByValue bytes) (numbers : List Number) (wholes 
   IsNoCall (resumes token f) why = (error_as session_refusal (token_part token) ≡ Err why)
       ⊎ (((t : Token) × (token_part token ≡ Ok t)) × IsNoSearch v.table numbers wholes f why)
   IsNoCall (explains f) why = IsNoSearch v.table numbers wholes f why
-  IsNoCall c why = call_of v.copy (copies v) c ≡ Err why
+  IsNoCall c why = call_of v.copy v.ds c ≡ Err why
 
 -- A line is this call, or it is refused for this reason.
 abbrev pub IsCallIn : {bytes : List ℕ} → ByValue bytes → List ℕ → Result Call ReportedRefusal → Type 0

@@ -1,4 +1,4 @@
 use Rattle.bd_wide_cli.proofs.command.run.Goals as goal
 
-pub returns-in-Find : goal.returns-in-Find
-returns-in-Find g c = rw c.in-Find.is c.find.ensures.found
+pub returns-in-Find-clause-ran : goal.returns-in-Find-clause-ran
+returns-in-Find-clause-ran g c = rw c.in-Find.is c.find.ensures.found
