@@ -31,22 +31,29 @@ HELP = {"-h", "--help"}
 
 # A line after the name of a program, what is offered after it, and what only some shells offer there.
 Row = tuple[str, set[str], set[str]]
-OF_FIND: list[Row] = [
-    # zsh and fish offer options once a hyphen stands there.
-    ("find ", DUMPS | {"-"}, OPTIONS | OTHERS),
-    ("find -", OPTIONS, {"-"}),
-    ("find --", OPTIONS, set()),
-    ("find one.bson --", OPTIONS, set()),
-    ("find one.bson --s", {"--sort", "--skip"}, set()),
-    ("find one.bson --skip 1 --s", {"--sort"}, set()),
-    ("find one.bson --skip=1 --s", {"--sort"}, set()),
-    ("find one.bson --query '{\"a\":1}' --", OPTIONS - {"--query"}, set()),
-    ("find one.bson t", set(), set()),
-    ("find --batch 3 ", DUMPS | {"-"}, OPTIONS - {"--batch"} | OTHERS),
-    ("find --batch=3 t", {"two.bson"}, set()),
-    *((f"find one.bson {option} ", set(), set()) for option in sorted(OPTIONS)),
-    *((f"find {option}=", set(), set()) for option in sorted(OPTIONS)),
-]
+
+
+def of_find(options: set[str]) -> list[Row]:
+    """The lines of `find`, which has these options."""
+    return [
+        # zsh and fish offer options once a hyphen stands there.
+        ("find ", DUMPS | {"-"}, options | OTHERS),
+        ("find -", options, {"-"}),
+        ("find --", options, set()),
+        ("find one.bson --", options, set()),
+        ("find one.bson --s", {"--sort", "--skip"}, set()),
+        ("find one.bson --skip 1 --s", {"--sort"}, set()),
+        ("find one.bson --skip=1 --s", {"--sort"}, set()),
+        ("find one.bson --query '{\"a\":1}' --", options - {"--query"}, set()),
+        ("find one.bson t", set(), set()),
+        # `--count` of `bsonwide` goes with neither `--batch` nor `--bson`.
+        ("find --batch 3 ", DUMPS | {"-"}, options - {"--batch", "--count"} | OTHERS),
+        ("find --batch=3 t", {"two.bson"}, set()),
+        *((f"find one.bson {option} ", set(), set()) for option in sorted(OPTIONS)),
+        *((f"find {option}=", set(), set()) for option in sorted(OPTIONS)),
+    ]
+
+
 OF_BSONFIND: list[Row] = [
     ("", COMMANDS, HELP),
     ("-", {"--help"}, HELP),
@@ -64,7 +71,7 @@ OF_BSONFIND: list[Row] = [
     ("serve ", DUMPS, OTHERS),
     ("serve -", set(), set()),
     ("serve one.bson ", set(), set()),
-    *OF_FIND,
+    *of_find(OPTIONS),
 ]
 OF_BSONWIDE: list[Row] = [
     ("", OF_WIDE, HELP),
@@ -97,11 +104,7 @@ OF_BSONWIDE: list[Row] = [
             (f"{name} one.bson ", set(), set()),
         )
     ),
-    ("find ", DUMPS | {"-"}, WIDE_OPTIONS | OTHERS),
-    ("find -", WIDE_OPTIONS, {"-"}),
-    ("find one.bson --", WIDE_OPTIONS, set()),
-    ("find one.bson --s", {"--sort", "--skip"}, set()),
-    # `--count` goes with neither `--bson` nor `--batch`.
+    *of_find(WIDE_OPTIONS),
     ("find one.bson --bson --", WIDE_OPTIONS - {"--bson", "--count"}, set()),
     ("find one.bson --count --", WIDE_OPTIONS - {"--bson", "--count", "--batch"}, set()),
     ("find one.bson --batch 3 --", WIDE_OPTIONS - {"--batch", "--count"}, set()),
