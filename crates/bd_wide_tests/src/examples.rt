@@ -123,7 +123,7 @@ fn served(rt: HostRuntime) {
         out.bytes()
             .ends_with(b"\"matches\":{\"$numberLong\":\"1\"}}\n")
     );
-    assert!(rt; is_serve(&command) && !is_serve(&Command::Dump));
+    assert!(rt; is_serve(&command) && !is_serve(&Command::Check));
 }
 
 /// Out of a dump of two documents, the second cut short: each run of `order` that its devices allow.
@@ -169,11 +169,20 @@ fn refused_number(rt: HostRuntime) -> Result<(), Fail> {
     ];
     let command = Command::Order(read_order(alloc, &words)?);
     let mut input = MemoryInput::new(bytes, 100, None);
+    let mut commands = MemoryInput::new(b"", 1, None);
     let mut buffer = [0; 100];
     let mut out = MemoryOutput::new(&mut buffer, 100, None);
     let mut reported = [0; 100];
     let mut err = MemoryOutput::new(&mut reported, 100, None);
-    assert!(rt; run(alloc, &command, &mut input, &mut out, &mut err) == Status::Failed);
+    let status = run(
+        alloc,
+        &command,
+        &mut input,
+        &mut commands,
+        &mut out,
+        &mut err,
+    );
+    assert!(rt; status == Status::Failed);
     let coded = b"\x1c\0\0\0\x12~n\0\0\0\0\0\0\0\0\0\x12d\0\0\0\0\0\0\0\xf8\x3f\0";
     assert!(rt; out.bytes() == coded.as_slice());
     let message = "bsonwide: document 1, byte 20, path \"e\": not a whole number of 64 bits\n";
@@ -187,12 +196,12 @@ fn reports(rt: HostRuntime) {
     let usage = "usage: bsonwide dump FILE [--jsonFormat FORMAT]
        bsonwide check FILE
        bsonwide pack FILE
-       bsonwide find FILE [--query Q] [--sort S] [--skip N] [--limit N] [--batch N] [--index PATH] [--after TOKEN]
+       bsonwide find FILE [--query Q] [--sort S] [--skip N] [--limit N] [--batch N] [--index PATH] [--after TOKEN] [--bson | --count]
        bsonwide serve FILE
        bsonwide order FILE [PATH..]
 ";
-    let mut buffer = [0; 400];
-    let mut out = MemoryOutput::new(&mut buffer, 400, None);
+    let mut buffer = [0; 500];
+    let mut out = MemoryOutput::new(&mut buffer, 500, None);
     let mut err = MemoryOutput::new(&mut [], 1, None);
     assert!(rt; report(&WordsFault::Help, &mut out, &mut err) == Status::Done);
     assert!(rt; out.bytes() == usage.as_bytes());
