@@ -6,9 +6,11 @@
 The program is `bsonwide`, with `bsonfind` beside it. Over a dump with doubles or decimal128 the model compares all numbers exactly, as
 MongoDB does: each reply must be the one that the model makes, and each token one that `bsonwide find` prints and resumes from. The
 model takes the digest in its tokens from `bsonwide find`. Over any other dump the replies must be those of `bsonfind serve` to the byte,
-also to commands with doubles. Over a damaged dump only the first fault is printed, and no command is read.
+also to commands with doubles. With `places` in each `getMore` that has documents, the replies must have the numbers of these documents,
+and be the same otherwise. Over a damaged dump only the first fault is printed, and no command is read.
 """
 
+import json
 import os
 import random
 import re
@@ -143,6 +145,7 @@ class Serving:
         for (line, reply), told in zip(wanted, replies):
             self.tests.want(f"dump {number}, {line}", self.compared(line, told) == self.compared(line, reply), (told, reply))
             self.refused += '"layer":"numbers"' in reply
+        self.number(f"dump {number}", model, lines, replies)
         for token, request in session.tokens[:: max(1, len(session.tokens) // 3)]:
             self.resume(f"dump {number}, {token}", model, token, request)
 
@@ -167,6 +170,28 @@ class Serving:
             session.reply(lines[-1].encode())
         replies, wanted = self.serve(PROGRAM, lines), self.serve(OTHER, lines)
         self.tests.want(f"dump {number}, plain", replies == wanted and wanted[0] == 0, (lines, replies, wanted))
+        self.number(f"dump {number}, plain", model, lines, replies[1])
+
+    def number(self, name: str, model: WideDump, lines: list[str], replies: list[str]) -> None:
+        """With `places` a batch has the numbers of its documents in place of them, and every other reply is the same."""
+        commands = [line for line in lines if line.strip()]
+        marked = [
+            f'{line.rstrip()[:-1]},"places":true}}' if reply.startswith('{"ok":true,"documents":[') else line for line, reply in zip(commands, replies)
+        ]
+        status, numbered, said = self.serve(PROGRAM, marked)
+        self.tests.want(f"{name}, numbered", (status, said, len(numbered)) == (0, "", len(replies)), (status, said))
+        for line, reply, told in zip(marked, replies, numbered):
+            self.tests.want(f"{name}, {line}", self.printed(model, told) == reply, (told, reply))
+
+    @staticmethod
+    def printed(model: WideDump, reply: str) -> str:
+        """A reply with documents in place of their numbers."""
+        lead = '{"ok":true,"places":['
+        if not reply.startswith(lead):
+            return reply
+        numbers = [int(it["$numberInt"]) for it in json.loads(reply)["places"]]
+        rest = reply[reply.index("]", len(lead)) :]
+        return '{"ok":true,"documents":[' + ",".join(written(model.documents[it]) for it in numbers) + rest
 
     def damage(self, number: int, model: WideDump) -> None:
         """Of a damaged dump nothing is printed but its first fault, and no command is read."""
