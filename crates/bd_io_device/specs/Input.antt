@@ -1,6 +1,6 @@
 -- What contracts say of the devices that give bytes: their state, and what a read of bytes in memory gives.
 use Rattle.std.specs.Prelude.{◌≡◌, ◌≢◌, ◌≤◌, ◌++◌, ℕ, List, length, Option, Some, MatchOption}
-use Rattle.std.specs.Io.Buffered.{reader_remaining}
+use Rattle.std.specs.Io.Buffered.{reader_buffer, reader_remaining}
 use Rattle.bd_io_device.specs.Devices.{Reader, after_more, reader_of}
 use Rattle.bd_io_device.specs.declared.input.{BufferedInput.BufferedInput, MemoryInput.MemoryInput, SystemInput.SystemInput}
 
@@ -13,6 +13,10 @@ module _ {R : Type 0} (remaining : R → Option (List ℕ)) where
   -- the state of a device that reads it in blocks
   abbrev pub buffered_reader : BufferedInput R → Reader
   buffered_reader input = reader_of (reader_remaining remaining input.device.reader) input.device.tally
+
+-- the bytes that a device read in blocks and has not given yet
+abbrev pub bytes_ahead : {R : Type 0} → BufferedInput R → List ℕ
+bytes_ahead input = reader_buffer input.device.reader
 
 -- the bytes in memory that are still to be given
 abbrev pub input_bytes : MemoryInput → List ℕ

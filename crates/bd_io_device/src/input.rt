@@ -111,7 +111,8 @@ impl<R: Read + Drop> BufferedInput<R> {
 }
 
 impl<R: Read + Drop> Input for BufferedInput<R> {
-    ghost use Rattle.bd_io_device.specs.Input.{buffered_reader};
+    ghost use Rattle.std.specs.Prelude.{true};
+    ghost use Rattle.bd_io_device.specs.Input.{buffered_reader, bytes_ahead};
 
     ghost state = { buffered_reader R.remaining };
 
@@ -123,8 +124,22 @@ impl<R: Read + Drop> Input for BufferedInput<R> {
         self.device.read(buffer)
     }
 
+    /// It returns true whenever `buffer` is not empty and that many bytes are buffered.
     #[inline(always)]
-    fn read_buffered(&mut self, buffer: &mut [u8]) -> bool {
+    fn read_buffered(&mut self, buffer: &mut [u8]) -> bool
+        ensures buffered { 0 < length buffer.old →
+            length buffer.old ≤ length (bytes_ahead self.old) → result ≡ true }
+        ensures bytes { IsTrue result → (0 < length buffer.old)
+            × Consumes (⟦<BufferedInput<R> as Input>⟧.state self.old).remaining
+            (⟦<BufferedInput<R> as Input>⟧.state self.new).remaining buffer.new }
+        ensures gives { IsTrue result →
+            ⟦<BufferedInput<R> as Input>⟧.read_gives self.old (Some buffer.new) self.new }
+        ensures called { IsTrue result → (⟦<BufferedInput<R> as Input>⟧.state self.new).calls
+            ≡ after_more (⟦<BufferedInput<R> as Input>⟧.state self.old).calls 1 }
+        ensures no_failure { (⟦<BufferedInput<R> as Input>⟧.state self.new).failures
+            ≡ (⟦<BufferedInput<R> as Input>⟧.state self.old).failures }
+        ensures none { result ≡ false → (self.new ≡ self.old) × (buffer.new ≡ buffer.old) }
+    {
         let buffered = self.device.reader.buffer();
         if buffer.is_empty() || buffered.len() < buffer.len() {
             return false;

@@ -56,7 +56,7 @@ impl ReadFault {
 ///
 /// On an error the bytes taken are a prefix of the device's bytes. `Device`: a read failed. `TooLong`: the reads gave more
 /// bytes than `limits.bytes`. `TooManyTurns`: `limits.turns` reads each gave at least one byte, so another is needed.
-/// `NoMemory`: memory ran out.
+/// `NoMemory`: memory ran out for bytes that were read, and another read was allowed.
 pub fn read_all<R: Input>(
     alloc: Global,
     reader: &mut R,
@@ -99,15 +99,15 @@ pub fn read_all<R: Input>(
     ensures no_failure { ¬ (IsErrOf result ReadFault.Device) →
         (R.state reader.new).failures ≡ (R.state reader.old).failures }
 
-    // Each read before memory ran out gave at least one byte, and together they gave no more than the limit.
+    // Memory ran out for bytes that a read gave, and another read was allowed.
     ensures memory { IsErrOf result ReadFault.NoMemory →
-        (n : ℕ) × (given : List ℕ) × (n ≤ limits.turns)
+        (n : ℕ) × (given : List ℕ) × (0 < n) × (n < limits.turns)
         × (length given ≤ limits.bytes) × AreReads R.read_gives n reader.old given reader.new
         × Consumes (R.state reader.old).remaining (R.state reader.new).remaining given }
 {
-    let mut buffer = [0u8; 65536];
+    let mut buffer = [0u8; 16384];
     let mut bytes = Vec::new(alloc);
-    for _ in 0..limits.turns {
+    for turn in 0..limits.turns {
         let Ok(n) = reader.read(&mut buffer) else {
             return Err(ReadFault::Device);
         };
@@ -116,6 +116,9 @@ pub fn read_all<R: Input>(
         }
         if limits.bytes - (bytes.len() as u64) < n as u64 {
             return Err(ReadFault::TooLong);
+        }
+        if turn + 1 == limits.turns {
+            return Err(ReadFault::TooManyTurns);
         }
         if bytes.extend_from_slice(&buffer[..n]).is_err() {
             return Err(ReadFault::NoMemory);

@@ -9,7 +9,7 @@ use Rattle.bd_value.specs.Limits.{longest_command}
 use Rattle.bd_io_device.specs.{Devices.after_more, Devices.greatest, declared.reading.Limits.Limits, declared.reading.ReadFault.ReadFault}
 use Rattle.bd_io_device.specs.Devices.{AreReads, zero_reads, Reader}
 use Rattle.bd_io_device.proofs.DevicesLemmas.{reads_none, reads_more, reads_append}
-use Rattle.bd_io_lines.specs.{Lines.IsLine, Lines.IsPart, LineBuffer.Buffered}
+use Rattle.bd_io_lines.specs.{Lines.IsLine, Lines.IsPart, Lines.IsWholeLine, LineBuffer.Buffered, inside.LineBuffer.StopsLine}
 use Rattle.bd_io_lines.specs.LineBuffer.{EndsByOneRead, FailsToReadLine, FindsNoLine, ReadsLine, GivesBeforeLast, GivesBytes, IsCause, IsLazy, LastRead, ReadsTo, StopsReading}
 use Rattle.bd_io_lines.proofs.LinesLemmas.{line_grows, both_empty}
 use Rattle.bd_io_device.specs.declared.reading.ReadFault.TheVariants as reads
@@ -37,12 +37,12 @@ one_read_then {R} {gives} n old mid new first prefix part are (turns, last, more
     (n + turns, last, reads_append n turns old mid last first prefix are more, one)
 
 -- why a line was not read, by a reader that gave bytes before
-pub cause_then : {R : Type 0} {gives : R → Option (List ℕ) → R → Type 0} (limit remaining n : ℕ) (old mid new : R) (before bytes rest : List ℕ) (fault : ReadFault)
-    → AreReads gives n old before mid → remaining + length before ≡ limit → IsCause gives remaining bytes rest mid new fault
-    → IsCause gives limit bytes (before ++ rest) old new fault
-cause_then {R} {gives} limit remaining n old mid new before bytes rest reads.Device are capacity (part, fits) = (part, omega (arith, capacity, fits, length-append before rest))
-cause_then {R} {gives} limit remaining n old mid new before bytes rest reads.TooLong are capacity (inl (long, fits)) = inl (long, omega (arith, capacity, fits, length-append before rest))
-cause_then {R} {gives} limit remaining n old mid new before bytes rest reads.TooLong are capacity (inr (begun, prefix, part, split, is, splits, few, more, one)) =
+pub cause_then : {R : Type 0} {gives : R → Option (List ℕ) → R → Type 0} (limits middle : Limits) (n turns : ℕ) (old mid new : R) (before bytes rest : List ℕ) (fault : ReadFault)
+    → AreReads gives n old before mid → middle.bytes + length before ≡ limits.bytes → middle.turns + n ≡ limits.turns
+    → IsCause gives middle turns bytes rest mid new fault → IsCause gives limits (n + turns) bytes (before ++ rest) old new fault
+cause_then {R} {gives} limits middle n turns old mid new before bytes rest reads.Device are capacity turned (part, fits) = (part, omega (arith, capacity, fits, length-append before rest))
+cause_then {R} {gives} limits middle n turns old mid new before bytes rest reads.TooLong are capacity turned (inl (long, fits)) = inl (long, omega (arith, capacity, fits, length-append before rest))
+cause_then {R} {gives} limits middle n turns old mid new before bytes rest reads.TooLong are capacity turned (inr (begun, prefix, part, split, is, splits, few, more, one)) =
     inr (
       begun,
       before ++ prefix,
@@ -54,8 +54,10 @@ cause_then {R} {gives} limit remaining n old mid new before bytes rest reads.Too
       omega (arith, capacity, more, length-append before rest),
       one_read_then n old mid new before prefix part are one,
     )
-cause_then {R} {gives} limit remaining n old mid new before bytes rest reads.TooManyTurns are capacity (part, fits) = (part, omega (arith, capacity, fits, length-append before rest))
-cause_then {R} {gives} limit remaining n old mid new before bytes rest reads.NoMemory are capacity fits = omega (arith, capacity, fits, length-append before rest)
+cause_then {R} {gives} limits middle n turns old mid new before bytes rest reads.TooManyTurns are capacity turned (part, fits) = (part, omega (arith, capacity, fits, length-append before rest))
+cause_then {R} {gives} limits middle n turns old mid new before bytes rest reads.NoMemory are capacity turned (inl whole, fits) = (inl whole, omega (arith, capacity, fits, length-append before rest))
+cause_then {R} {gives} limits middle n turns old mid new before bytes rest reads.NoMemory are capacity turned (inr (part, few), fits) =
+    (inr (part, omega (arith, turned, few)), omega (arith, capacity, fits, length-append before rest))
 
 -- the loop invariant: the bytes given are the line so far and what is buffered after it
 pub record SoFar {R : Type 0} (state : R → Reader) (gives : R → Option (List ℕ) → R → Type 0) (before after : Buffered) (old new : R) : Type 0 where
@@ -137,40 +139,31 @@ module _ {R : Type 0} {state : R → Reader} {gives : R → Option (List ℕ) �
     calls = let x = a.turned in let y = b.calls in let z = a.calls in search (rules, x, y, z);
   }
 
+  -- after bytes that were given reading failed, and why
+  pub fails_after : {limits middle : Limits} {old mid new : R} {prefix rest : List ℕ} {fault : ReadFault} (bytes : List ℕ)
+      → GivesBytes state gives limits middle false prefix old mid → (b : StopsReading state gives middle rest mid new fault) → IsCause gives middle b.turns bytes rest mid new fault
+      → (stops : StopsReading state gives limits (prefix ++ rest) old new fault) × IsCause gives limits stops.turns bytes (prefix ++ rest) old new fault
+  unfolding stops_then
+  fails_after {limits} {middle} {old} {mid} {new} {prefix} {rest} {fault} bytes a b cause =
+      (stops_then a b, cause_then limits middle a.turns b.turns old mid new prefix bytes rest fault a.reads a.capacity a.turned cause)
+
   -- after a part of a line the reader failed
   fails_then : {limits middle : Limits} {old mid new : R} {head prefix line : List ℕ} {fault : ReadFault}
       → GivesBytes state gives limits middle false prefix old mid → head ++ prefix ≡ line → IsLazy gives head prefix old mid
       → FailsToReadLine state gives middle line mid new fault → FailsToReadLine state gives limits head old new fault
-  fails_then {limits} {middle} {old} {mid} {new} {head} {prefix} {line} {fault} a e lazy b = record {
-    given = prefix ++ b.given;
-    stops = stops_then a b.stops;
-    cause = cause_then limits.bytes middle.bytes a.turns old mid new prefix (head ++ (prefix ++ b.given)) b.given fault a.reads a.capacity
-        (subst (λ x. IsCause gives middle.bytes x b.given mid new fault) (sym (ap (λ x. x ++ b.given) e) ∙ append_assoc head prefix b.given) b.cause);
-    lazy = lazy_then a.turns old mid new head prefix line b.given e a.reads lazy b.lazy;
-  }
+  fails_then {limits} {middle} {old} {mid} {new} {head} {prefix} {line} {fault} a e lazy b =
+      let both = fails_after (head ++ (prefix ++ b.given)) a b.stops (subst (λ x. IsCause gives middle b.stops.turns x b.given mid new fault) (sym (ap (λ x. x ++ b.given) e) ∙ append_assoc head prefix b.given) b.cause) in
+      record {
+        given = prefix ++ b.given;
+        stops = both.0;
+        cause = both.1;
+        lazy = lazy_then a.turns old mid new head prefix line b.given e a.reads lazy b.lazy;
+      }
 
   -- n reads gave these bytes, and no further read was made
   stops_by : {limits : Limits} {old new : R} {given : List ℕ} {fault : ReadFault} (turns : ℕ) → turns ≤ limits.turns → Consumes (state old).remaining (state new).remaining given
       → LastRead state gives limits turns old given new fault → (state new).calls ≡ after_more (state old).calls turns → StopsReading state gives limits given old new fault
   stops_by turns within gave last calls = record { turns = turns; within = within; gave = gave; reads = last; calls = search (rules, within, calls) }
-
-  -- no further read is allowed
-  pub fails_turns : (limits : Limits) (old : R) (head : List ℕ) → limits.turns ≡ 0 → (state old).calls ≤ greatest → IsPart head
-      → FailsToReadLine state gives limits head old old reads.TooManyTurns
-  fails_turns limits old head none fit part =
-      let same : (state old).calls ≡ after_more (state old).calls limits.turns = search (rules, none, fit) in
-      record {
-        given = [];
-        stops = record {
-          turns = 0;
-          within = omega arith;
-          gave = Consumes-nil (state old).remaining;
-          reads = (zero_reads old, refl, sym none, same);
-          calls = search (rules, same);
-        };
-        cause = (subst IsPart (sym (append-nil head)) part, omega arith);
-        lazy = inl (refl, refl);
-      }
 
   -- the read failed
   pub fails_device : (limits : Limits) (old new : R) (head : List ℕ) → 0 < limits.turns → IsPart head → Keeps (state old).remaining (state new).remaining
@@ -200,15 +193,15 @@ module _ {R : Type 0} {state : R → Reader} {gives : R → Option (List ℕ) �
     lazy = inr ([], subst IsLine (sym (append-nil head)) part.0, (last, refl, (0, old, zero_reads old, inl one)));
   }
 
-  -- memory ran out for the bytes that the read gave
-  pub fails_capacity : (limits : Limits) (old new : R) (head last : List ℕ) → 0 < limits.turns → IsLine head → Consumes (state old).remaining (state new).remaining last
-      → gives old (Some last) new → (state new).calls ≡ after_more (state old).calls 1 → (state new).failures ≡ (state old).failures
-      → 0 < length last → length last ≤ limits.bytes → FailsToReadLine state gives limits head old new reads.NoMemory
-  fails_capacity limits old new head last some part took one calls no_failure more fits = record {
-    given = last;
-    stops = stops_by 1 (omega (arith, some)) took (reads_more 0 old old new [] last last (zero_reads old) one more refl, no_failure) calls;
-    cause = fits;
-    lazy = inr ([], subst IsLine (sym (append-nil head)) part, (last, refl, (0, old, zero_reads old, inl one)));
+  -- memory ran out before the read
+  pub fails_capacity : (limits : Limits) (old : R) (head : List ℕ) → 0 < limits.turns → (state old).calls ≤ greatest → IsPart head
+      → FailsToReadLine state gives limits head old old reads.NoMemory
+  unfolding stops_by
+  fails_capacity limits old head some fit part = record {
+    given = [];
+    stops = stops_by 0 (omega arith) (Consumes-nil (state old).remaining) (zero_reads old, refl) (search (rules, fit));
+    cause = (inr (subst IsPart (sym (append-nil head)) part, some), omega arith);
+    lazy = inl (refl, refl);
   }
 
   -- the bytes that the read gave were taken
@@ -265,20 +258,47 @@ module _ {R : Type 0} {state : R → Reader} {gives : R → Option (List ℕ) �
       lazy = so_far.lazy;
     }
 
-    line_no_memory : FailsToReadLine state gives before.remaining before.rest old mid reads.NoMemory
-    line_no_memory = record {
+    -- what is buffered is a part of the line
+    is_part : IsLine lines.rest → length lines.line + length lines.rest ≤ longest_command → IsPart (before.rest ++ so_far.given)
+    is_part is short = subst IsPart (sym so_far.same) (line_grows lines.line lines.rest whole is, omega (arith, short, length-append lines.line lines.rest))
+
+    -- no further read is allowed
+    line_too_many : IsLine lines.rest → length lines.line + length lines.rest ≤ longest_command → lines.remaining.turns ≡ 0
+        → FailsToReadLine state gives before.remaining before.rest old mid reads.TooManyTurns
+    line_too_many is short none =
+        let all : gave.turns ≡ before.remaining.turns = let x = gave.turned in omega (arith, x, none) in
+        record {
+          given = so_far.given;
+          stops = stops_by gave.turns (omega (arith, all)) gave.gave
+              (gave.reads, gave.no_failure, all, subst (λ i. (state mid).calls ≡ after_more (state old).calls i) all gave.calls) gave.calls;
+          cause = (is_part is short, let x = gave.capacity in omega (arith, x));
+          lazy = so_far.lazy;
+        }
+
+    -- memory ran out for a whole line, or another read is allowed
+    line_no_memory : IsWholeLine (before.rest ++ so_far.given) ⊎ (IsPart (before.rest ++ so_far.given) × (gave.turns < before.remaining.turns))
+        → FailsToReadLine state gives before.remaining before.rest old mid reads.NoMemory
+    unfolding stops_by gave
+    line_no_memory why = record {
       given = so_far.given;
       stops = stops_by gave.turns (let x = gave.turned in omega (arith, x)) gave.gave (gave.reads, gave.no_failure) gave.calls;
-      cause = let x = gave.capacity in omega (arith, x);
+      cause = (why, let x = gave.capacity in omega (arith, x));
       lazy = so_far.lazy;
     }
 
-    pub line_stops : (fault : ReadFault) → (fault ≡ reads.TooLong) ⊎ (fault ≡ reads.NoMemory)
-        → (fault ≡ reads.TooLong → (part : List ℕ) × (rest : List ℕ) × IsLine part × (lines.rest ≡ part ++ rest) × (longest_command < length lines.line + length part))
+    pub line_stops : (fault : ReadFault) → StopsLine lines.line lines.rest lines.remaining.turns fault
         → FailsToReadLine state gives before.remaining before.rest old mid fault
-    line_stops fault (inl is) long =
-        let l = long is in subst (λ f. FailsToReadLine state gives before.remaining before.rest old mid f) (sym is) (line_too_long l.0 l.1 l.2 l.3 l.4)
-    line_stops fault (inr is) long = subst (λ f. FailsToReadLine state gives before.remaining before.rest old mid f) (sym is) line_no_memory
+    line_stops reads.TooLong (part, rest, is, split, long) = line_too_long part rest is split long
+    line_stops reads.TooManyTurns (is, short, none) = line_too_many is short none
+    line_stops reads.Device never = absurd never
+    line_stops reads.NoMemory (inl (part, more, is, split, short)) = line_no_memory (inl (
+      lines.line ++ part,
+      more,
+      (line_grows lines.line part whole is, omega (arith, short, length-append lines.line part)),
+      so_far.same ∙ ap (λ x. lines.line ++ x) split ∙ sym (append_assoc lines.line part (10 ∷ more)),
+    ))
+    line_stops reads.NoMemory (inr (is, short, some)) =
+        line_no_memory (inr (is_part is short, let x = gave.turned in omega (arith, x, some)))
 
     module _ (is : IsLine lines.rest) where
       head_is : IsLine (before.rest ++ so_far.given)

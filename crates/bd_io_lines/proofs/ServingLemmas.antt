@@ -10,7 +10,7 @@ use Rattle.bd_io_lines.specs.Serving.{IsReadInTime, RepliesInTurn, ServesAll, Se
 use Rattle.bd_io_lines.specs.Lines.{AreShort, AreWhole, IsFirstLine, commands_of, is_empty_line, not_empty}
 use Rattle.std.specs.Prelude.{◌⊎◌}
 use Rattle.bd_io_lines.proofs.LinesLemmas.{commands_line, no_long_line, short_after, short_line, short_whole_line, commands_whole_line, newlines_more, newlines_of_line}
-use Rattle.bd_io_lines.proofs.LineBufferLemmas.{before_last_then, cause_then, gives_none, gives_then, stops_then}
+use Rattle.bd_io_lines.proofs.LineBufferLemmas.{before_last_then, fails_after, gives_none, gives_then}
 use Rattle.bd_io_lines.specs.declared.serving.ServeFault.TheVariants as serves
 
 -- ---- replies
@@ -136,18 +136,18 @@ module _ {R S : Type 0} {state : R → Reader} {gives : R → Option (List ℕ) 
       → (text : List ℕ) × StopsUnread state gives replies limits old new s text t fault × TakesText (between before now) text
   stops_unread new fault going fails =
       let first = gave going in
-      let apart : (so_far.whole ++ lines.rest) ++ fails.given ≡ so_far.whole ++ (lines.rest ++ fails.given) =
-      append_assoc so_far.whole lines.rest fails.given in (
+      let rest = lines.rest ++ fails.given in
+      let apart : (so_far.whole ++ lines.rest) ++ fails.given ≡ so_far.whole ++ rest = append_assoc so_far.whole lines.rest fails.given in
+      let both = subst (λ x. (stops : StopsReading state gives limits x old new fault) × IsCause gives limits stops.turns rest x old new fault) apart
+      (fails_after rest first fails.stops fails.cause) in (
         so_far.text,
         record {
           whole = so_far.whole;
-          rest = lines.rest ++ fails.given;
+          rest = rest;
           ends = so_far.ends going;
           short = so_far.short;
-          stops = subst (λ x. StopsReading state gives limits x old new fault) apart (stops_then first fails.stops);
-          cause = subst (λ x. IsCause gives limits.bytes (lines.rest ++ fails.given) x old new fault) apart
-              (cause_then limits.bytes lines.remaining.bytes first.turns old mid new (so_far.whole ++ lines.rest) (lines.rest ++ fails.given) fails.given fault
-              first.reads first.capacity fails.cause);
+          stops = both.0;
+          cause = both.1;
           in_time = in_time_now so_far.whole lines.rest fails.given first.turns old mid new first.reads so_far.in_time fails.lazy;
           replied = so_far.replied;
         },

@@ -1,3 +1,4 @@
 pub mod Lines
 pub mod LineBuffer
 pub mod Serving
+pub mod inside

@@ -4,7 +4,7 @@ use Rattle.std.specs.{Prelude.Some, Prelude.None, Io.KnownBytes.Consumes, Io.Kno
 use Rattle.bd_io_device.specs.{Devices.after_more, Devices.AreReads, Devices.Reader}
 use Rattle.bd_io_device.specs.declared.reading.{Limits.Limits, ReadFault.ReadFault}
 use Rattle.bd_value.specs.Limits.{longest_command}
-use Rattle.bd_io_lines.specs.{Lines.IsFirstLine, Lines.IsLine, Lines.IsPart}
+use Rattle.bd_io_lines.specs.{Lines.IsFirstLine, Lines.IsLine, Lines.IsPart, Lines.IsWholeLine}
 
 -- the next line of a device, what is buffered after it, and what may still be read
 pub record Buffered : Type 0 where
@@ -44,17 +44,19 @@ module _ {R : Type 0} (gives : R → Option (List ℕ) → R → Type 0) where
   IsLazy head given old new =
       ((given ≡ []) × (new ≡ old)) ⊎ ((prefix : List ℕ) × IsLine (head ++ prefix) × GivesBeforeLast prefix old given new)
 
-  -- Why the line that begins with these bytes was not read;
-  -- the reader gave `given`, and may give `limit` bytes.
+  -- Why the line that begins with these bytes was not read; `turns` reads gave `given`.
   -- `TooLong`: the line is too long; or the last read, with a part of the line buffered, exceeded the limit.
-  abbrev pub IsCause : ℕ → List ℕ → List ℕ → R → R → ReadFault → Type 0
-  IsCause limit bytes given old new ReadFault.TooLong =
+  -- `NoMemory`: the line is not too long, and it is whole, or another read was allowed.
+  abbrev pub IsCause : Limits → ℕ → List ℕ → List ℕ → R → R → ReadFault → Type 0
+  IsCause limits turns bytes given old new ReadFault.TooLong =
       (((line : List ℕ) × (rest : List ℕ) × (bytes ≡ line ++ rest) × IsLine line × (longest_command < length line))
-      × (length given ≤ limit))
+      × (length given ≤ limits.bytes))
       ⊎ ((line : List ℕ) × (prefix : List ℕ) × (part : List ℕ) × (bytes ≡ line ++ part) × IsPart line
-      × (given ≡ prefix ++ part) × (length prefix ≤ limit) × (limit < length given) × EndsByOneRead prefix part old new)
-  IsCause limit bytes given old new ReadFault.NoMemory = length given ≤ limit
-  IsCause limit bytes given old new fault = IsPart bytes × (length given ≤ limit)
+      × (given ≡ prefix ++ part) × (length prefix ≤ limits.bytes) × (limits.bytes < length given)
+      × EndsByOneRead prefix part old new)
+  IsCause limits turns bytes given old new ReadFault.NoMemory =
+      (IsWholeLine bytes ⊎ (IsPart bytes × (turns < limits.turns))) × (length given ≤ limits.bytes)
+  IsCause limits turns bytes given old new fault = IsPart bytes × (length given ≤ limits.bytes)
 
 -- For such a reader, and what contracts see of each of its states.
 module _ {R : Type 0} (state : R → Reader) (gives : R → Option (List ℕ) → R → Type 0) where
@@ -105,5 +107,5 @@ module _ {R : Type 0} (state : R → Reader) (gives : R → Option (List ℕ) �
   pub record FailsToReadLine (limits : Limits) (head : List ℕ) (old new : R) (fault : ReadFault) : Type 0 where
     pub given : List ℕ
     pub stops : StopsReading limits given old new fault
-    pub cause : IsCause gives limits.bytes (head ++ given) given old new fault
+    pub cause : IsCause gives limits stops.turns (head ++ given) given old new fault
     pub lazy : IsLazy gives head given old new

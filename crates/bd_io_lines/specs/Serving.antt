@@ -61,7 +61,7 @@ module _ {R S : Type 0} (state : R → Reader) (gives : R → Option (List ℕ) 
     pub ends : AreWhole whole
     pub short : AreShort whole
     pub stops : StopsReading state gives limits (whole ++ rest) old new fault
-    pub cause : IsCause gives limits.bytes rest (whole ++ rest) old new fault
+    pub cause : IsCause gives limits stops.turns rest (whole ++ rest) old new fault
     pub in_time : IsReadInTime gives whole (whole ++ rest) old new
     pub replied : RepliesInTurn replies s (commands_of whole) text t
 

@@ -10,6 +10,9 @@ use memchr::memchr;
 use std::alloc::Global;
 use std::marker::Model;
 
+/// How many bytes a read gives at most.
+const BLOCK: usize = 16_384;
+
 /// One line of a device, and the bytes that the device gave after it, which are fewer than those of one read.
 #[derive(Drop)]
 pub struct LineBuffer {
@@ -44,13 +47,14 @@ impl Model for LineBuffer {
     } };
 
     ghost invariant = { λ s. (s.start ≤ length s.block.items)
-        × (length s.line.items ≤ longest_command) × (length s.block.items ≤ 65536)
+        × (length s.line.items ≤ longest_command) × (length s.block.items ≤ 16384)
         × (s.ended ≡ true → drop s.start s.block.items ≡ []) };
 }
 
 impl LineBuffer {
-    ghost use Rattle.std.specs.Prelude.{Ok, Err, false, Some, IfErr, IsErrOf, List, OnErr, OnOk, ℕ, ◌⊎◌};
+    ghost use Rattle.std.specs.Prelude.{Ok, Err, false, Some, IfErr, List, OnErr, OnOk, ℕ};
     ghost use Rattle.bd_io_lines.specs.LineBuffer.{FailsToReadLine, FindsNoLine, GivesBytes, ReadsLine};
+    ghost use Rattle.bd_io_lines.specs.inside.LineBuffer.{StopsLine};
 
     /// No line yet. It takes no memory.
     pub fn new(alloc: Global, limits: Limits) -> LineBuffer
@@ -92,7 +96,7 @@ impl LineBuffer {
     /// - `Device`: a read failed before the line was whole;
     /// - `TooLong`: the line is longer than 16,777,216 bytes, or the device gave more than the limit of bytes;
     /// - `TooManyTurns`: another read is needed, and the limit of reads is reached;
-    /// - `NoMemory`: memory ran out.
+    /// - `NoMemory`: memory ran out for a line that is not too long; it is whole, or another read is allowed.
     ///
     /// After an error, each call returns the same error, and reads nothing.
     pub fn read_next<R: Input>(&mut self, reader: &mut R) -> Result<bool, ReadFault>
@@ -158,11 +162,10 @@ impl LineBuffer {
             × (self.new.rest ≡ []) }
         ensures unchanged { (self.new.remaining ≡ self.old.remaining)
             × (self.new.ended ≡ self.old.ended) × (self.new.failed ≡ self.old.failed) }
-        ensures long { IsErrOf result ReadFault.TooLong → (part : List ℕ) × (rest : List ℕ)
-            × IsLine part × (self.old.rest ≡ part ++ rest)
-            × (longest_command < length self.old.line + length part) }
-        ensures fault { IfErr result (λ f. (f ≡ ReadFault.TooLong) ⊎ (f ≡ ReadFault.NoMemory)) }
+        ensures stops { IfErr result
+            (StopsLine self.old.line self.old.rest self.old.remaining.turns) }
         ensures short { length self.new.line ≤ longest_command }
+        ensures allowed { result ≡ Ok false → 0 < self.old.remaining.turns }
     {
         let rest = &self.block[self.start..];
         match find_newline(rest) {
@@ -180,6 +183,9 @@ impl LineBuffer {
                 if LONGEST_COMMAND - self.line.len() < rest.len() {
                     return Err(ReadFault::TooLong);
                 }
+                if self.remaining.turns == 0 {
+                    return Err(ReadFault::TooManyTurns);
+                }
                 if self.line.extend_from_slice(rest).is_err() {
                     return Err(ReadFault::NoMemory);
                 }
@@ -190,10 +196,11 @@ impl LineBuffer {
     }
 
     /// Reads once, if a part of a line is buffered and nothing after it.
-    #[tactic(auto, using(crate::proofs::LineBufferLemmas::fails_turns, crate::proofs::LineBufferLemmas::fails_device))]
+    #[tactic(auto, using(crate::proofs::LineBufferLemmas::fails_device))]
     fn fetch<R: Input>(&mut self, reader: &mut R) -> Result<(), ReadFault>
         requires drained { self.old.rest ≡ [] }
         requires part { IsLine self.old.line }
+        requires allowed { 0 < self.old.remaining.turns }
         ensures gives { OnOk result (GivesBytes R.state R.read_gives self.old.remaining
             self.new.remaining self.new.ended self.new.rest reader.old reader.new) }
         ensures one { OnOk result
@@ -203,21 +210,20 @@ impl LineBuffer {
             R.state R.read_gives self.old.remaining self.old.line reader.old reader.new) }
         ensures unchanged { (self.new.line ≡ self.old.line) × (self.new.failed ≡ self.old.failed) }
     {
-        if self.remaining.turns == 0 {
-            return Err(ReadFault::TooManyTurns);
+        self.block.clear();
+        self.start = 0;
+        if self.block.reserve(BLOCK).is_err() {
+            return Err(ReadFault::NoMemory);
         }
-        let mut capacity = [0u8; 65536];
+        let mut capacity = [0u8; BLOCK];
         let Ok(n) = reader.read(&mut capacity) else {
             return Err(ReadFault::Device);
         };
         if self.remaining.bytes < n as u64 {
             return Err(ReadFault::TooLong);
         }
-        self.block.clear();
-        self.start = 0;
-        if self.block.extend_from_slice(&capacity[..n]).is_err() {
-            return Err(ReadFault::NoMemory);
-        }
+        // They fit.
+        let _ = self.block.extend_from_slice(&capacity[..n]);
         self.remaining.turns -= 1;
         self.remaining.bytes -= n as u64;
         self.ended = n == 0;

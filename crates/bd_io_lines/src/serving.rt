@@ -16,7 +16,7 @@ pub trait Replier {
     /// In the first state this command may have this reply, which leads to the second state.
     ghost replies: { Self → List ℕ → List ℕ → Self → Type 0 };
 
-    /// The second state is unchanged from the first.
+    /// Between the first state and the second no reply was made.
     ghost stays: { Self → Self → Type 0 };
 
     /// Appends the reply to a command, a line without its newline. If memory runs out, `text` is unchanged, and no more

@@ -1,15 +1,20 @@
 -- What was written: what the device has of it, and what is still buffered.
-use Rattle.std.specs.Prelude.{◌≡◌, ◌≢◌, ◌<◌, ◌⊎◌, ℕ, List, [], ◌++◌, take, Option, None, Some}
+use Rattle.std.specs.Prelude.{◌≡◌, ◌≢◌, ◌+◌, ◌<◌, ◌≤◌, ◌⊎◌, ℕ, List, [], ◌++◌, length, take, Option, None, Some}
 use Rattle.bd_io_device.specs.Devices.{WriteFailsWithin, TakesText, over}
 use Rattle.bd_io_device.specs.declared.output.Output.{Ghosts as Output}
 use Rattle.bd_io_stdout.specs.declared.output_buffer.WriteState.{WriteState}
 use Rattle.bd_io_stdout.specs.declared.output_buffer.WriteState.TheVariants.{Intact, Lost}
 
--- the bytes that are buffered, their device, and what became of the bytes before
+-- the bytes that are buffered, how many these may be, their device, and what became of the bytes before
 pub record BufferState (D : Type 0) : Type 0 where
   pub waiting : List ℕ
+  pub capacity : ℕ
   pub device : D
   pub write_state : WriteState
+
+-- These bytes are fewer than 64 KiB, and fit into the buffer.
+abbrev pub FitsBuffer : {D : Type 0} → BufferState D → List ℕ → Type 0
+FitsBuffer old bytes = (length bytes < 65536) × (length old.waiting + length bytes ≤ old.capacity)
 
 -- writes in a row led from one device to the other; each took some bytes, and joined in this order they are these
 pub data AreTaken {S : Type 0} (takes : S → List ℕ → Option ℕ → S → Type 0) : S → List ℕ → S → Type 0 where

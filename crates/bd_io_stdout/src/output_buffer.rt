@@ -37,41 +37,54 @@ pub enum WriteState {
 #[derive(Drop)]
 pub struct OutputBuffer<D: Output + Drop> {
     waiting: Vec<u8>,
+    /// How many bytes are buffered at most: `CAPACITY`, or 0 if there was no memory for it.
+    capacity: usize,
     device: D,
     write_state: WriteState,
 }
 
-/// A contract sees the buffered bytes, the device, and what became of the bytes before.
+/// A contract sees the buffered bytes, how many these may be, the device, and what became of the bytes before.
 impl<D: Output + Drop> Model for OutputBuffer<D> {
-    ghost use Rattle.std.specs.Prelude.{◌≡◌, ◌≢◌, ◌≤◌, [], length};
+    ghost use Rattle.std.specs.Prelude.{◌≡◌, ◌≢◌, ◌≤◌, [], length, vec_capacity};
     ghost use Rattle.bd_io_stdout.specs.OutputBuffer.{BufferState};
     ghost use Rattle.bd_io_stdout.specs.declared.output_buffer.WriteState.TheVariants.{Intact};
 
     ghost Value = { BufferState D };
 
-    ghost view = { λ s.
-        record { waiting = s.waiting.items; device = s.device; write_state = s.write_state } };
+    ghost view = { λ s. record {
+      waiting = s.waiting.items;
+      capacity = s.capacity;
+      device = s.device;
+      write_state = s.write_state;
+    } };
 
-    ghost invariant = { λ s. (length s.waiting.items ≤ 65536)
+    ghost invariant = { λ s. (length s.waiting.items ≤ s.capacity) × (s.capacity ≤ 65536)
+        × (s.capacity ≤ vec_capacity s.waiting)
         × (s.write_state ≢ Intact → s.waiting.items ≡ []) };
 }
 
 impl<D: Output + Drop> OutputBuffer<D> {
-    ghost use Rattle.std.specs.Prelude.{◌++◌, ◌≤◌, IsErr, OnErr, OnOk, false, true};
+    ghost use Rattle.std.specs.Prelude.{◌++◌, ◌≤◌, ◌⊎◌, IsErr, IsOk, OnErr, OnOk, false, true};
     ghost use Rattle.std.specs.Io.KnownBytes.{ReadConsumes};
     ghost use Rattle.bd_io_device.specs.Devices.{after_more};
-    ghost use Rattle.bd_io_stdout.specs.OutputBuffer.{WriteFails};
-    ghost use Rattle.bd_io_stdout.specs.OutputBuffer.{Buffers, HandsOn};
+    ghost use Rattle.bd_io_stdout.specs.OutputBuffer.{Buffers, FitsBuffer, HandsOn, WriteFails};
     ghost use Rattle.bd_io_stdout.specs.declared.output_buffer.WriteState.TheVariants.{Lost, Reported};
 
-    /// An empty buffer for this device.
+    /// An empty buffer for this device. Without memory for it, each write goes to the device directly.
     pub fn new(alloc: Global, device: D) -> OutputBuffer<D>
         ensures device { result.device ≡ device }
         ensures empty { result.waiting ≡ [] }
+        ensures capacity { (result.capacity ≡ 65536) ⊎ (result.capacity ≡ 0) }
         ensures intact { result.write_state ≡ Intact }
     {
+        let mut waiting = Vec::new(alloc);
+        let capacity = match waiting.reserve(CAPACITY) {
+            Ok(()) => CAPACITY,
+            Err(_) => 0,
+        };
         OutputBuffer {
-            waiting: Vec::new(alloc),
+            waiting,
+            capacity,
             device,
             write_state: WriteState::Intact,
         }
@@ -82,6 +95,7 @@ impl<D: Output + Drop> OutputBuffer<D> {
         ensures write_state { result ≡ self.new.write_state }
         ensures handed { HandsOn D.Output self.old self.new }
         ensures empty { self.new.waiting ≡ [] }
+        ensures capacity { self.new.capacity ≡ self.old.capacity }
     {
         if self.waiting.is_empty() {
             return self.write_state;
@@ -95,28 +109,35 @@ impl<D: Output + Drop> OutputBuffer<D> {
         self.write_state
     }
 
-    /// Appends bytes to the buffer, if they are few, fit, and there is memory for them; else it changes nothing.
+    /// Appends bytes to the buffer, if they are few and fit; else it changes nothing.
     fn buffers(&mut self, bytes: &[u8]) -> bool
         requires { self.old.write_state ≡ Intact }
+        ensures fits { FitsBuffer self.old bytes.now → result ≡ true }
         ensures buffered { result ≡ true →
             self.new.waiting ≡ self.old.waiting ++ bytes.now }
         ensures not_buffered { result ≡ false → self.new.waiting ≡ self.old.waiting }
+        ensures capacity { self.new.capacity ≡ self.old.capacity }
         ensures device { self.new.device ≡ self.old.device }
         ensures write_state { self.new.write_state ≡ self.old.write_state }
     {
-        bytes.len() < CAPACITY
-            && bytes.len() <= CAPACITY - self.waiting.len()
-            && self.waiting.extend_from_slice(bytes).is_ok()
+        if bytes.len() >= CAPACITY || self.capacity - self.waiting.len() < bytes.len() {
+            return false;
+        }
+        // They fit.
+        let _ = self.waiting.extend_from_slice(bytes);
+        true
     }
 
-    /// Appends bytes to the buffer, which is flushed first if they do not fit. Many bytes, or bytes without memory for them,
-    /// go to the device directly.
+    /// Appends bytes to the buffer, which is flushed first if they do not fit. Many bytes go to the device directly.
     fn append(&mut self, bytes: &[u8]) -> Result<(), DeviceFault>
         ensures buffered { OnOk result ((self.old.write_state ≡ Intact)
             × (self.new.write_state ≡ Intact) × Buffers D.Output self.old bytes.now self.new) }
+        ensures fits { self.old.write_state ≡ Intact → FitsBuffer self.old bytes.now →
+            IsOk result × (self.new.device ≡ self.old.device) }
         ensures write_failed { OnErr result (self.old.write_state ≡ Intact →
             WriteFails D.Output self.old.device (self.old.waiting ++ bytes.now) self.new.device) }
         ensures empty { OnErr result (self.new.waiting ≡ []) }
+        ensures capacity { self.new.capacity ≡ self.old.capacity }
         ensures after_loss { self.old.write_state ≢ Intact → self.new.device ≡ self.old.device }
     {
         if self.write_state != WriteState::Intact {
@@ -139,6 +160,10 @@ impl<D: Output + Drop> OutputBuffer<D> {
     fn take(&mut self, bytes: &[u8]) -> Result<(), DeviceFault>
         ensures taken { OnOk result ((self.old.write_state ≡ Intact)
             × (self.new.write_state ≡ Intact) × Buffers D.Output self.old bytes.now self.new) }
+        // Few bytes that fit are buffered, and the device is not written to.
+        ensures fits { self.old.write_state ≡ Intact → FitsBuffer self.old bytes.now →
+            IsOk result × (self.new.device ≡ self.old.device) }
+        ensures capacity { self.new.capacity ≡ self.old.capacity }
         ensures write_failed { OnErr result (self.old.write_state ≡ Intact →
             WriteFails D.Output self.old.device (self.old.waiting ++ bytes.now) self.new.device) }
         ensures reported { OnErr result (self.new.write_state ≡ Reported) }
@@ -161,6 +186,7 @@ impl<D: Output + Drop> OutputBuffer<D> {
     ) -> Result<usize, DeviceFault>
         ensures handed { HandsOn D.Output self.old self.new }
         ensures empty { self.new.waiting ≡ [] }
+        ensures capacity { self.new.capacity ≡ self.old.capacity }
         ensures lost { self.new.write_state ≢ Intact →
             IsErr result × (reader.new ≡ reader.old) × (buffer.new ≡ buffer.old) }
         ensures within { IfOk result (λ n. n ≤ length buffer.new) }
@@ -185,6 +211,7 @@ impl<D: Output + Drop> OutputBuffer<D> {
     fn write_after<E: Output>(&mut self, writer: &mut E, bytes: &[u8]) -> Result<usize, DeviceFault>
         ensures handed { HandsOn D.Output self.old self.new }
         ensures empty { self.new.waiting ≡ [] }
+        ensures capacity { self.new.capacity ≡ self.old.capacity }
         ensures unreported { self.new.write_state ≡ Lost →
             IsErr result × (writer.new ≡ writer.old) }
         ensures within { IfOk result (λ n. n ≤ length bytes.now) }

@@ -23,8 +23,8 @@ fn reads_all_within_limits(rt: HostRuntime) -> Result<(), Fail> {
         (hello, 1, None, 0, 0, Some(TooManyTurns), 0, 0),
         (hello, 2, Some(2), 100, 100, Some(Device), 2, 2),
         (b"", 8, None, 0, 1, None, 1, 0),
-        // More bytes than one read takes.
-        (&long, 1_000_000, None, 200_000, 5, None, 5, 200_000),
+        // More bytes than one read takes: 13 reads of at most 16 KiB, and the one that finds the end.
+        (&long, 1_000_000, None, 200_000, 14, None, 14, 200_000),
     ] {
         assert!(rt; most > 0 && taken <= all.len());
         let mut input = MemoryInput::new(all, most, failing);

@@ -1,4 +1,4 @@
-use Rattle.std.proofs.Common.{rules, ◌≡◌, ◌++◌, ap, ℕ, List, Ok, Err, true, false, [], length, sym, subst}
+use Rattle.std.proofs.Common.{rules, ◌≡◌, ◌++◌, ℕ, List, Ok, true, false, [], length, sym, subst}
 use Rattle.std.proofs.{lemmas.Result.err_from_is_err_and, lemmas.List.nil_from_length}
 use Rattle.bd_io_lines.specs.Lines.{IsLine}
 use Rattle.bd_io_lines.proofs.LinesLemmas.{line_grows}
@@ -21,7 +21,7 @@ returns-in_err-take_part-clause-fails g c =
     let going : l.self.ended ≡ false = search rules in
     let so = l.invariant.so_far (l.invariant.still going) in
     let p = err_from_is_err_and c.from_residual.result c.from_residual.ensures.1 in
-    rw (p.1, p.2) (next.line_stops so going l.invariant.line c.in_err-take_part.field-0.0 e.fault (λ h. e.long (ap Err h)))
+    rw (p.1, p.2) (next.line_stops so going l.invariant.line c.in_err-take_part.field-0.0 e.stops)
 
 pub returns-then-branch-clause-reads : goal.returns-then-branch-clause-reads
 returns-then-branch-clause-reads g c _ =

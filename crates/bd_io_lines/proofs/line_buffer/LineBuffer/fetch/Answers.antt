@@ -16,12 +16,8 @@ returns-then-self-n-clause-fails g c =
 
 pub returns-then-is_err-clause-fails : goal.returns-then-is_err-clause-fails
 returns-then-is_err-clause-fails g c =
-    let e = c.in-Ok.ensures in
-    let size : length (take c.in-Ok.n c.read.new.buffer) ≡ c.in-Ok.n = length-take-le c.in-Ok.n c.read.new.buffer e.within in
-    let some : 0 < length (take c.in-Ok.n c.read.new.buffer) = search rules in
-    let fits : length (take c.in-Ok.n c.read.new.buffer) ≤ c.args.self.now.remaining.bytes = search rules in
-    fails_capacity c.args.self.now.remaining c.args.reader.now c.read.new.self c.args.self.now.line (take c.in-Ok.n c.read.new.buffer)
-    (search rules) c.requires.part e.bytes.0 e.gives e.called e.no_failure some fits
+    let short : length c.args.self.now.line ≤ longest_command = let i = c.self.invariant.1 in search (rules, i) in
+    fails_capacity c.args.self.now.remaining c.args.reader.now c.args.self.now.line c.requires.allowed (search rules) (c.requires.part, short)
 
 pub returns-clause-gives : goal.returns-clause-gives
 returns-clause-gives g c =

@@ -39,10 +39,10 @@ returns-clause-buffered g c =
     let h2 = c.buffers-2.ensures in
     let old = c.args.self.now in
     let inside = c.self-2.inside in
-    let mid : BufferState _ = record { waiting = inside.waiting.items; device = inside.device; write_state = inside.write_state } in
+    let mid : BufferState _ = record { waiting = inside.waiting.items; capacity = inside.capacity; device = inside.device; write_state = inside.write_state } in
     let is = c.self-2.view_is in
     let still = same_waiting is ∙ h2.not_buffered c.if-buffers-2.false in
-    let new : BufferState _ = record { waiting = inside.waiting.items; device = c.write_all.new.writer; write_state = inside.write_state } in
+    let new : BufferState _ = record { waiting = inside.waiting.items; capacity = inside.capacity; device = c.write_all.new.writer; write_state = inside.write_state } in
     let going : c.hand_on-handed.new.self.write_state ≡ Intact = search rules in
     let handed = c.hand_on-handed.ensures.handed.intact going in
     let empty : mid.waiting ≡ [] = still ∙ c.hand_on-handed.ensures.empty in
@@ -61,7 +61,7 @@ returns-clause-write_failed g c =
     let h2 = c.buffers-2.ensures in
     let old = c.args.self.now in
     let inside = c.self-2.inside in
-    let mid : BufferState _ = record { waiting = inside.waiting.items; device = inside.device; write_state = inside.write_state } in
+    let mid : BufferState _ = record { waiting = inside.waiting.items; capacity = inside.capacity; device = inside.device; write_state = inside.write_state } in
     let is = c.self-2.view_is in
     let still = same_waiting is ∙ h2.not_buffered c.if-buffers-2.false in
     let going : c.hand_on-handed.new.self.write_state ≡ Intact = search rules in
