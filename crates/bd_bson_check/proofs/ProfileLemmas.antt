@@ -93,6 +93,7 @@ document_other e bytes o =
     other_bind (skip_frame true e bytes) _ _ o
     (λ fr o. elements_other (skip_nested All levels) (skip_nested Named levels) (nested_other levels) None (length fr.0) fr.1 fr.0 o)
 
+-- a first fault of nineteen types that is no double and no decimal128 is the first fault of all 21 types too
 pub others_are_first : (base : ℕ) (bytes : List ℕ) → ReportsNoNumber (first_fault base bytes) → fault_under All base bytes ≡ first_fault base bytes
 others_are_first base bytes reports = ap result_err (document_other (base + length bytes) bytes (other (skip_document Named (base + length bytes) bytes) reports))
   where

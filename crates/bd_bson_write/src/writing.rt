@@ -145,11 +145,11 @@ fn append_leaf<N: Reading>(node: N, out: &mut Vec<u8>) -> Result<(), WriteFault>
         unreachable!()
     };
     let Some(scope) = node.scope() else {
-        return write_scalar(scalar_leaf, out);
+        return put_scalar(scalar_leaf, out);
     };
     let at = out.len();
     append_number(0, out)?;
-    write_scalar(scalar_leaf, out)?;
+    put_scalar(scalar_leaf, out)?;
     put_value(scope, out)?;
     seal(at, out)
 }
@@ -200,11 +200,29 @@ pub(crate) fn seal(at: usize, out: &mut Vec<u8>) -> Result<(), WriteFault>
 /// Appends the bytes of a scalar, or of the code of code with scope: BSON 1.1, the values of `element`.
 ///
 /// # Errors
-/// `WriteFault::TooLong` if a text or data has more than 16,793,600 bytes; `WriteFault::NoMemory`. In both cases `out` may end
-/// with some of the bytes.
+/// `WriteFault::TooLong` if a text or data has more than 16,793,600 bytes; `WriteFault::NoMemory`. In both cases `out` is
+/// unchanged.
+#[inline(always)]
+pub fn write_scalar(scalar: Scalar<'_>, out: &mut Vec<u8>) -> Result<(), WriteFault>
+    requires { zero_in_leaf (view_of scalar) ≡ false }
+    ensures ok { OnOk result (out.new.items ≡ out.old.items ++ leaf_bytes (view_of scalar.entry)) }
+    ensures spells { OnOk result (LeafSpells (view_of scalar.entry)) }
+    ensures fault { IfErr result
+        (OverrunsLimit (length out.old.items + length (leaf_bytes (view_of scalar.entry)))) }
+    ensures err { OnErr result (out.new.items ≡ out.old.items) }
+{
+    let before = out.len();
+    let written = put_scalar(scalar, out);
+    if written.is_err() {
+        out.truncate(before);
+    }
+    written
+}
+
+/// The same, but on an error `out` may end with some of the bytes.
 #[inline(always)]
 #[tactic(auto, using(bd_value::proofs::PrefixLemmas::prefixes))]
-pub fn write_scalar(scalar: Scalar<'_>, out: &mut Vec<u8>) -> Result<(), WriteFault>
+fn put_scalar(scalar: Scalar<'_>, out: &mut Vec<u8>) -> Result<(), WriteFault>
     requires { zero_in_leaf (view_of scalar) ≡ false }
     ensures ok { OnOk result (out.new.items ≡ out.old.items ++ leaf_bytes (view_of scalar.entry)) }
     ensures spells { OnOk result (LeafSpells (view_of scalar.entry)) }

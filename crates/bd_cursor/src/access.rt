@@ -1,6 +1,6 @@
 //! How documents are reached: by which index, or without one.
 
-ghost use Rattle.std.specs.Prelude.{◌≡◌, ◌≤◌, ◌<◌, ◌↔◌, IfErr, IfOk, IfSome, IsTrue, List, OnErr, OnOk, Some, drop, if◌then◌else◌, is_some, length, map, position, take, unwrap_or, ℕ};
+ghost use Rattle.std.specs.Prelude.{◌≡◌, ◌≤◌, ◌<◌, ◌↔◌, IfErr, IfOk, IfSome, IsOk, IsTrue, List, OnErr, OnOk, Some, drop, if◌then◌else◌, is_some, length, map, position, take, unwrap_or, ℕ};
 ghost use Rattle.std.specs.Option.{option_or};
 ghost use Rattle.std.specs.List.Sorted.{IsStrictlyIncreasing};
 ghost use Rattle.bd_cursor_model.specs.Answer.{at_most, is_empty};
@@ -14,7 +14,7 @@ ghost use Rattle.bd_index.specs.IndexView.{AreIndexesOf, IsIndexOf};
 ghost use Rattle.bd_path.specs.{PathNames.path_text, Sort.sort_paths};
 ghost use Rattle.bd_cursor_request.specs.declared.results.Refused.TheVariants.{NoIndex, NoMemory};
 ghost use Rattle.bd_cursor_sort.specs.Selection.{matches_at_of, selection_of};
-ghost use Rattle.bd_cursor.specs.Access.{IsAccessOf, access_of, access_path, by_bounds, by_order, find_map, index_key};
+ghost use Rattle.bd_cursor.specs.Access.{IsAccessOf, access_of, access_path, by_bounds, by_none, by_order, find_map, index_key};
 ghost use Rattle.bd_cursor.specs.SessionView.{hint_of};
 ghost use Rattle.bd_cursor.specs.inside.Access.{Reaches};
 ghost use Rattle.bd_cursor.specs.Access.{index_key_bounds, named_access, scanned, serving_bounds, walk_dir, way_of};
@@ -84,6 +84,8 @@ impl<'a> Access<'a> {
         ensures refused { IfErr result (λ why. why
             ≡ (if has_index (map index_key indexes.now) (hint_of choice.now)
             then NoMemory else NoIndex)) }
+        // A scan takes no memory.
+        ensures scan { way_of choice.now ≡ by_none → IsOk result }
     {
         match choice {
             Choice::Scan => Ok(Access::Scan),

@@ -1,13 +1,13 @@
 -- A sort with its directions as int32 numbers, pair by pair.
-use Rattle.std.proofs.Common.{◌≡◌, ℕ, List, [], ◌∷◌, ◌++◌, sym, ap, ap₂, ◌∙◌, append_assoc, ◌≤◌, ◌&&◌, Bool, true, false, cond, Option, Some, None, length, refl, inl}
+use Rattle.std.proofs.Common.{◌≡◌, ℕ, List, [], ◌∷◌, ◌++◌, sym, ap, ap₂, ◌∙◌, append_assoc, ◌≤◌, ◌&&◌, Bool, true, false, cond, Option, Some, None, Result, Ok, Err, length, refl, inl}
 use Rattle.std.proofs.Common.{inr}
 use Rattle.bd_value.specs.Tree as trees
 use Rattle.bd_value.specs.Tree.{Doc, Tree, leaf, doc, fields_of, pairs_of-fields_of, AreParts}
-use Rattle.bd_cursor_request.specs.Request.{direction_number, sort_written, direction_of, are_distinct, pair_names, sort_of, sort_pairs}
+use Rattle.bd_cursor_request.specs.Request.{direction_number, sort_written, direction_of, are_distinct, pair_names, sort_of, sort_pairs, sort_with}
 use Rattle.bd_cursor_request.specs.{inside.Refused.IsRefusedAs, declared.results.Refused.Refused}
-use Rattle.std.specs.Prelude.{nat_le}
+use Rattle.std.specs.{Prelude.nat_le, Prelude.is_some, Result.is_ok}
 use Rattle.std.proofs.lemmas.Bool.{le-leb}
-use Rattle.bd_path.specs.Sort.{SortPath}
+use Rattle.bd_path.specs.{Sort.SortPath, Reach.Names, declared.sort.Dir.Dir, declared.path.PathFault.PathFault}
 
 abbrev with_pair : Doc → List ℕ → Tree → Doc
 with_pair prefix name t = prefix ++ (name, t) ∷ []
@@ -39,6 +39,28 @@ a_name_twice d is = go (nat_le (length d) 4) (are_distinct (pair_names d)) is
 
 pub few_and_distinct : (d : Doc) → length d ≤ 4 → are_distinct (pair_names d) ≡ true → sort_of d ≡ sort_pairs d
 few_and_distinct d le is = rw (le-leb (length d) 4 le, is) refl
+
+-- whether pairs are a sort, by the first pair and the others
+pub is_sort_with : (path : Result Names PathFault) (dir : Option Dir) (others : Option (List SortPath))
+    → is_some (sort_with path dir others) ≡ is_ok path && (is_some dir && is_some others)
+is_sort_with (Ok path) (Some dir) (Some ss) = refl
+is_sort_with (Ok path) (Some dir) None = refl
+is_sort_with (Ok path) None others = refl
+is_sort_with (Err fault) dir others = refl
+
+pub no_sort : (d : Doc) → length d ≤ 4 → are_distinct (pair_names d) ≡ true → is_some (sort_pairs d) ≡ false → sort_of d ≡ None
+no_sort d le is none = few_and_distinct d le is ∙ nothing (sort_pairs d) none
+  where
+    nothing : (o : Option (List SortPath)) → is_some o ≡ false → o ≡ None
+    nothing None e = refl
+    nothing (Some ss) e = absurd cc
+
+pub some_sort : (d : Doc) → length d ≤ 4 → are_distinct (pair_names d) ≡ true → is_some (sort_pairs d) ≡ true → sort_of d ≡ None → {A : Type 0} → A
+some_sort d le is some none = impossible (sort_pairs d) some (sym (few_and_distinct d le is) ∙ none)
+  where
+    impossible : (o : Option (List SortPath)) → is_some o ≡ true → o ≡ None → {A : Type 0} → A
+    impossible None e n = absurd cc
+    impossible (Some ss) e n = absurd cc
 
 -- if a part is refused, so is the whole
 pub refused_alike : (refused reason : Refused) (X Y : Type 0) → (X → Y) → IsRefusedAs refused reason X → IsRefusedAs refused reason Y

@@ -1,6 +1,6 @@
 //! A request to a dump: a filter, a sort and counts.
 
-ghost use Rattle.std.specs.Prelude.{◌≡◌, ◌++◌, IfErr, IfOk, None, Ok, OnOk, Some, codes, decimal};
+ghost use Rattle.std.specs.Prelude.{◌≡◌, ◌++◌, Err, IfErr, IfOk, None, Ok, OnOk, Some, codes, decimal, is_some};
 ghost use Rattle.std.specs.List.{list_any};
 ghost use Rattle.std.specs.Str.{bytes_eq};
 ghost use Rattle.bd_value.specs.Tree.{int32, leaf};
@@ -152,12 +152,17 @@ fn read_sort(alloc: Global, document: &Document) -> Result<Vec<(Path, Dir)>, Ref
     ensures sort { IfOk result (λ v. sort_of (pairs document.now) ≡ Some (sort_paths v.items)) }
     ensures fault { IfErr result (λ r.
         IsRefusedAs r BadSort (sort_of (pairs document.now) ≡ None)) }
+    // A document that is no sort is refused as such, since it takes no memory.
+    ensures refused { sort_of (pairs document.now) ≡ None → result ≡ Err BadSort }
 {
     if document.len() > MOST {
         return Err(Refused::BadSort);
     }
     let pairs = Tree::Doc(document).parts();
     if !are_distinct::<Tree<'_>>(pairs) {
+        return Err(Refused::BadSort);
+    }
+    if !are_sort_pairs::<Tree<'_>>(pairs) {
         return Err(Refused::BadSort);
     }
     read_pairs::<Tree<'_>>(alloc, pairs)
@@ -188,6 +193,23 @@ fn has_name<N: Reading>(pairs: N::Rest, name: &str) -> bool
         remaining = next.2;
     }
     false
+}
+
+/// Whether each name is a path, and each value a direction. It takes no memory.
+fn are_sort_pairs<N: Reading>(pairs: N::Rest) -> bool
+    ensures { result ≡ is_some (sort_pairs (N.remaining pairs)) }
+{
+    let mut remaining = pairs;
+    while let Some(next) = N::next(&remaining) {
+        if Path::check(next.0).is_err() {
+            return false;
+        }
+        if direction_of(next.1).is_none() {
+            return false;
+        }
+        remaining = next.2;
+    }
+    true
 }
 
 fn read_pairs<N: Reading>(alloc: Global, pairs: N::Rest) -> Result<Vec<(Path, Dir)>, Refused>

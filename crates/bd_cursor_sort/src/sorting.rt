@@ -1,6 +1,6 @@
 //! The places of the documents that match and come after the last one returned, in the order of a sort.
 
-ghost use Rattle.std.specs.Prelude.{◌≡◌, ◌&&◌, ◌<◌, ◌≤◌, ℕ, All, IfOk, IfSome, List, OnOk, length, take};
+ghost use Rattle.std.specs.Prelude.{◌≡◌, ◌&&◌, ◌<◌, ◌≤◌, ℕ, All, IfOk, IfSome, IsOk, List, OnOk, Some, length, take};
 ghost use Rattle.bd_cursor_model.specs.Answer.{at_most, before};
 ghost use Rattle.bd_cursor_model.specs.Laws.{IsAscending};
 ghost use Rattle.bd_cursor_model.specs.Source.{is_after, passes, places_after};
@@ -40,8 +40,10 @@ pub fn sorted_places<P: PlaceSource + Drop>(
     requires serves { P.serves source (length (documents dump.now))
         (matches_at_of (documents dump.now) (filter_tree request.now.filter)) }
     requires in_range { IfSome last (λ p. p < length (documents dump.now)) }
-    ensures { IfOk result (λ v. v.items
+    ensures places { IfOk result (λ v. v.items
         ≡ at_most most (places_after (selection_of (documents dump.now) request.now) last)) }
+    // If none is requested, it takes no memory.
+    ensures none { most ≡ Some 0 → IsOk result }
 {
     let limit = limit_of(most, dump.len() as usize);
     if limit == 0 {
@@ -94,7 +96,8 @@ pub fn is_match(dump: &Dump, filter: &Filter, place: u32) -> bool
 
 /// How many of `count` places are returned at most.
 fn limit_of(most: Option<u64>, count: usize) -> usize
-    ensures { (ps : List ℕ) → length ps ≤ count → take result ps ≡ at_most most ps }
+    ensures taken { (ps : List ℕ) → length ps ≤ count → take result ps ≡ at_most most ps }
+    ensures none { most ≡ Some 0 → result ≡ 0 }
 {
     match most {
         Some(most) => (most as usize).min(count),

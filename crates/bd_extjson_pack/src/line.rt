@@ -1,7 +1,10 @@
 //! A line as the bytes of the document that it is.
-ghost use Rattle.std.specs.Prelude.{◌≡◌, ◌++◌, IfOk, IfSome, OnErr, None, Ok};
+ghost use Rattle.std.specs.Prelude.{◌≡◌, ◌++◌, IfOk, IfSome, OnErr, None, Some, Ok};
+ghost use Rattle.std.specs.Str.{IsUtf8};
 ghost use Rattle.bd_value.specs.Tree.{Doc};
+ghost use Rattle.bd_extjson_fault.specs.TextFault.{text_fault};
 ghost use Rattle.bd_extjson_pack.specs.Packable.{plain, IsPackable, IsBad};
+ghost use Rattle.bd_extjson_pack.specs.declared.line.LineFault.TheVariants.{Unread};
 
 use crate::refusal::Refusal;
 use crate::tokens::spell_line;
@@ -57,6 +60,8 @@ impl Packer {
         ensures packed { result ≡ Ok None →
             (d : Doc) × IsPackable line.now d × (out.new.items ≡ out.old.items ++ plain d) }
         ensures bad { IfOk result (λ o. IfSome o (λ f. IsBad line.now f × (out.new ≡ out.old))) }
+        // Bytes that are not UTF-8 are always reported as such.
+        ensures utf8 { ¬ (IsUtf8 line.now) → result ≡ Ok (Some (Unread (text_fault line.now))) }
         ensures err { OnErr result (out.new.items ≡ out.old.items) }
     {
         let text = match text_of(line) {

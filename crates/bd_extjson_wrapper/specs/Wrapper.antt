@@ -45,6 +45,15 @@ abbrev pub is_scope_name : Option Wrapper → Bool
 is_scope_name (Some kinds.Scope) = true
 is_scope_name _ = false
 
+-- The value of such an object has a text or data, which takes memory.
+abbrev pub TakesMemory : Wrapper → Type 0
+TakesMemory kinds.Symbol = Unit {0}
+TakesMemory kinds.Code = Unit {0}
+TakesMemory kinds.Binary = Unit {0}
+TakesMemory kinds.RegularExpression = Unit {0}
+TakesMemory kinds.DbPointer = Unit {0}
+TakesMemory _ = ⊥
+
 -- the value of an object's one member, if there is no other and it has that name
 abbrev pub only_member : List ℕ → Members → Option Json
 only_member name (json.member k j json.no_members) = if bytes_eq k name then Some j else None

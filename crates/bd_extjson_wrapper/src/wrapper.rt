@@ -1,5 +1,5 @@
 //! The objects that mean values of other kinds: which, by their first names, and what is in them.
-ghost use Rattle.std.specs.Prelude.{◌≡◌, ◌≢◌, Some, option_map, option_and_then, string_bytes, codes};
+ghost use Rattle.std.specs.Prelude.{◌≡◌, ◌≢◌, Some, option_map, option_and_then, string_bytes, codes, Err};
 ghost use Rattle.std.specs.Result.{result_ok};
 ghost use Rattle.hex.specs.Hex.{decode_sized, hex_digit_value};
 ghost use Rattle.json.specs.Find.{as_number, as_object};
@@ -7,7 +7,7 @@ ghost use Rattle.json.specs.Value.{value_view, members_view};
 ghost use Rattle.bd_value.specs.Tree.{leaf};
 ghost use Rattle.bd_value.specs.View.{tree_of};
 ghost use Rattle.bd_extjson_wrapper.specs.Wrapper.{wrapper_of, is_code_name, is_scope_name, only as only_in, pair as pair_in, id_of as id_in};
-ghost use Rattle.bd_extjson_wrapper.specs.Wrapper.{data_in, subtype_in, word_in, name_in, long_in, one, single, Gives};
+ghost use Rattle.bd_extjson_wrapper.specs.Wrapper.{data_in, subtype_in, word_in, name_in, long_in, one, single, Gives, TakesMemory};
 ghost use Rattle.bd_extjson_wrapper.specs.declared.wrapper.Trouble.TheVariants.{Memory, Refused};
 ghost use Rattle.bd_extjson_wrapper.specs.declared.wrapper.Wrapper.TheVariants as kinds;
 
@@ -98,13 +98,14 @@ pub fn names_scope(name: &str) -> bool
     matches!(Wrapper::from_name(name), Some(Wrapper::Scope))
 }
 
-/// The value of an object of one name, by the value after the name.
+/// The value of an object of one name, by the value after the name. Only a value with a text or data takes memory.
 pub fn unwrap_single(
     alloc: Global,
     wrapper: Wrapper,
     part: &json::Value<'_>,
 ) -> Result<Value, Trouble>
-    ensures { Gives tree_of result (option_map leaf (single wrapper (value_view part.now))) }
+    ensures value { Gives tree_of result (option_map leaf (single wrapper (value_view part.now))) }
+    ensures memory { result ≡ Err Memory → TakesMemory wrapper }
 {
     match wrapper {
         Wrapper::Symbol => Ok(Value::Symbol(text_in(alloc, part.as_str())?)),

@@ -1,9 +1,10 @@
 //! Paths, and why a text is not a path.
 
-ghost use Rattle.std.specs.Prelude.{◌≡◌, ◌<◌, ◌≤◌, ◌⊎◌, [], length, map, slice_get, string_bytes, Some, Ok, Err, IfOk, IfErr};
+ghost use Rattle.std.specs.Prelude.{◌≡◌, ◌<◌, ◌≤◌, ◌⊎◌, [], length, map, slice_get, string_bytes, Some, Ok, Err, IfOk, IfErr, MatchResult};
 ghost use Rattle.std.specs.{List.list_any, Str.bytes_eq};
 ghost use Rattle.bd_value.specs.Limits.{most_names};
 ghost use Rattle.bd_path.specs.Path.{component_names, components_of, path_fault_number, path_fault_words, path_of};
+ghost use Rattle.bd_path.specs.declared.path.PathFault.{PathFault};
 ghost use Rattle.bd_path.specs.declared.path.PathFault.TheVariants as faults;
 
 use crate::component::Component;
@@ -30,17 +31,28 @@ impl Path {
         ensures text { IfOk result (λ p. path_text p ≡ text.now) }
         ensures fault { IfErr result (λ fault. (fault ≡ faults.NoMemory)
             ⊎ (path_of text.now ≡ Err fault)) }
+        // A text that is no path is refused as such, since it takes no memory.
+        ensures refused { (fault : PathFault) → path_of text.now ≡ Err fault → result ≡ Err fault }
     {
+        Path::check(text)?;
         let names = split_path(alloc, text)?;
-        if names.len() > MOST_NAMES {
-            return Err(PathFault::TooLong);
-        }
-        if has_empty(&names) {
-            return Err(PathFault::EmptyComponent);
-        }
         let components = named(alloc, &names)?;
         let text = String::from_str(alloc, text)?;
         Ok(Path { text, components })
+    }
+
+    /// Why a text is not a path: there are more than 100 components, else one is empty. It takes no memory.
+    pub fn check(text: &str) -> Result<(), PathFault>
+        ensures { MatchResult result (λ _. path_of text.now ≡ Ok (components_of text.now))
+            (λ fault. path_of text.now ≡ Err fault) }
+    {
+        if count_names(text) > MOST_NAMES {
+            return Err(PathFault::TooLong);
+        }
+        if has_empty(text) {
+            return Err(PathFault::EmptyComponent);
+        }
+        Ok(())
     }
 
     /// A copy of the path; no text is parsed again. It fails only if memory runs out.
@@ -90,16 +102,18 @@ fn split_path(alloc: Global, text: &str) -> Result<Vec<&str>, NoMemory>
     text.split('.').collect(alloc)
 }
 
-/// Whether one of the names is empty.
-fn has_empty(names: &[&str]) -> bool
-    ensures { result ≡ list_any (bytes_eq []) (map (λ name. name.now) names.now) }
+/// How many names there are between the full stops of a text.
+fn count_names(text: &str) -> usize
+    ensures { result ≡ length (components_of text.now) }
 {
-    for name in names {
-        if name.is_empty() {
-            return true;
-        }
-    }
-    false
+    text.split('.').count()
+}
+
+/// Whether one of them is empty.
+fn has_empty(text: &str) -> bool
+    ensures { result ≡ list_any (bytes_eq []) (components_of text.now) }
+{
+    text.split('.').any(|name| name.is_empty())
 }
 
 /// The components of these names. It fails only if memory runs out.

@@ -17,6 +17,7 @@ array_is (array ts) ps is are = ap array (sym (ap items_of are ∙ items_of-list
 array_is (doc fs) ps is are = absurd cc
 array_is _ ps is are = absurd are
 
+-- code with scope whose scope has these parts is its code with the fields of the parts
 pub code_is : (t u : Tree) (c : List ℕ) (ps : Doc) → leaf_of t ≡ Some (code_leaf c) → scope_of t ≡ Some u → AreParts u ps → t ≡ code_scope c (fields_of ps)
 code_is (code_scope s fs) u c ps scalar_leaf scope are =
     let code : s ≡ c = cc in

@@ -147,28 +147,28 @@ append_items-returns-clause-fault g t c =
     let total = writes.frame_total c.args.out.now.items (items_bytes 0 (items_of (values_of (g.N.Reading.remaining c.args.items)))) c.extend_from_slice.new.self.items out in
     writes.err_more c.seal.result _ _ c.seal.ensures.fault (omega (arith, total))
 
-pub append_leaf-returns-in_err-write_scalar-clause-fault : goal.append_leaf-returns-in_err-write_scalar-clause-fault
-append_leaf-returns-in_err-write_scalar-clause-fault g t c =
+pub append_leaf-returns-in_err-put_scalar-clause-fault : goal.append_leaf-returns-in_err-put_scalar-clause-fault
+append_leaf-returns-in_err-put_scalar-clause-fault g t c =
     let code = writes.code_parts (g.N.Reading.tree c.args.node) _ _ (sym c.in-Some.ensures) (sym c.in-Some-scope.ensures.scope) in
-    let r = c.from_residual-in_err-write_scalar in
+    let r = c.from_residual-in_err-put_scalar in
     let p = err_from_is_err_and r.result r.ensures.1 in
-    let scalar_leaf = rw code.3 at c.in_err-write_scalar.ensures.fault in
+    let scalar_leaf = rw code.3 at c.in_err-put_scalar.ensures.fault in
     let total = writes.scoped_size code.0 (bytes_of (doc code.1)) in
     let le : length c.append_number.new.out.items + length (string code.0) ≤ length c.args.out.now.items + length (scoped code.0 (bytes_of (doc code.1))) =
     omega (arith, total, ap (λ xs. length xs) c.in_ok-append_number.ensures.ok, length-append c.args.out.now.items (number 0), number_length 0) in
-    rw (p.1, p.2, code.2) (writes.overruns_more _ _ c.in_err-write_scalar.field-0.0 le scalar_leaf)
+    rw (p.1, p.2, code.2) (writes.overruns_more _ _ c.in_err-put_scalar.field-0.0 le scalar_leaf)
 
 pub append_leaf-returns-in_err-put_value-clause-fault : goal.append_leaf-returns-in_err-put_value-clause-fault
 append_leaf-returns-in_err-put_value-clause-fault g t c =
     let code = writes.code_parts (g.N.Reading.tree c.args.node) _ _ (sym c.in-Some.ensures) (sym c.in-Some-scope.ensures.scope) in
     let r = c.from_residual-in_err-put_value in
     let p = err_from_is_err_and r.result r.ensures.1 in
-    let scalar_leaf = rw code.3 at c.in_ok-write_scalar.ensures.ok in
+    let scalar_leaf = rw code.3 at c.in_ok-put_scalar.ensures.ok in
     let inside = rw code.4 at c.in_err-put_value.ensures.fault in
-    let le : length c.write_scalar-2.new.out.items + length (bytes_of (doc code.1)) ≤ length c.args.out.now.items + length (scoped code.0 (bytes_of (doc code.1))) =
+    let le : length c.put_scalar-2.new.out.items + length (bytes_of (doc code.1)) ≤ length c.args.out.now.items + length (scoped code.0 (bytes_of (doc code.1))) =
     omega (
       arith,
-      writes.opened c.args.out.now.items c.append_number.new.out.items c.write_scalar-2.new.out.items (string code.0) c.in_ok-append_number.ensures.ok scalar_leaf,
+      writes.opened c.args.out.now.items c.append_number.new.out.items c.put_scalar-2.new.out.items (string code.0) c.in_ok-append_number.ensures.ok scalar_leaf,
       writes.scoped_size code.0 (bytes_of (doc code.1)),
     ) in
     rw (p.1, p.2, code.2) (writes.overruns_more _ _ c.in_err-put_value.field-0.0 le inside)
@@ -177,7 +177,7 @@ pub append_leaf-seal-requires : goal.append_leaf-seal-requires
 append_leaf-seal-requires g t c =
     let code = writes.code_parts (g.N.Reading.tree c.args.node) _ _ (sym c.in-Some.ensures) (sym c.in-Some-scope.ensures.scope) in
     let out = writes.code_out c.args.out.now.items _ _ c.put_value.new.out.items code.0 (bytes_of (doc code.1)) c.in_ok-append_number.ensures.ok
-    (rw code.3 at c.in_ok-write_scalar.ensures.ok) (rw code.4 at c.in_ok-put_value.ensures.ok) in
+    (rw code.3 at c.in_ok-put_scalar.ensures.ok) (rw code.4 at c.in_ok-put_value.ensures.ok) in
     let at : c.len-at.result ≡ length c.args.out.now.items = search rules in
     let size = writes.sealed_size c.args.out.now.items _ c.put_value.new.out.items out in
     search rules
@@ -186,7 +186,7 @@ pub append_leaf-returns-clause-ok : goal.append_leaf-returns-clause-ok
 append_leaf-returns-clause-ok g t c =
     let code = writes.code_parts (g.N.Reading.tree c.args.node) _ _ (sym c.in-Some.ensures) (sym c.in-Some-scope.ensures.scope) in
     let out = writes.code_out c.args.out.now.items _ _ c.put_value.new.out.items code.0 (bytes_of (doc code.1)) c.in_ok-append_number.ensures.ok
-    (rw code.3 at c.in_ok-write_scalar.ensures.ok) (rw code.4 at c.in_ok-put_value.ensures.ok) in
+    (rw code.3 at c.in_ok-put_scalar.ensures.ok) (rw code.4 at c.in_ok-put_value.ensures.ok) in
     let at : c.len-at.result ≡ length c.args.out.now.items = search rules in
     rw code.2 (writes.ok_on c.seal.result _ _ c.seal.ensures.ok (λ e. e ∙ writes.scoped_ok c.args.out.now.items code.0 (bytes_of (doc code.1)) c.put_value.new.out.items c.len-at.result out at))
 
@@ -194,18 +194,18 @@ pub append_leaf-returns-clause-fault : goal.append_leaf-returns-clause-fault
 append_leaf-returns-clause-fault g t c =
     let code = writes.code_parts (g.N.Reading.tree c.args.node) _ _ (sym c.in-Some.ensures) (sym c.in-Some-scope.ensures.scope) in
     let out = writes.code_out c.args.out.now.items _ _ c.put_value.new.out.items code.0 (bytes_of (doc code.1)) c.in_ok-append_number.ensures.ok
-    (rw code.3 at c.in_ok-write_scalar.ensures.ok) (rw code.4 at c.in_ok-put_value.ensures.ok) in
+    (rw code.3 at c.in_ok-put_scalar.ensures.ok) (rw code.4 at c.in_ok-put_value.ensures.ok) in
     let size = writes.sealed_size c.args.out.now.items _ c.put_value.new.out.items out in
     let total = writes.scoped_size code.0 (bytes_of (doc code.1)) in
     rw code.2 (writes.err_more c.seal.result _ _ c.seal.ensures.fault (omega (arith, size, total, length-append (string code.0) (bytes_of (doc code.1)))))
 
-pub append_leaf-returns-in_err-write_scalar-clause-prefix : goal.append_leaf-returns-in_err-write_scalar-clause-prefix
-append_leaf-returns-in_err-write_scalar-clause-prefix g t c =
-    let prefix : StartsWith c.write_scalar-2.new.out.items c.args.out.now.items = prefix_then _ _ _ (prefix_all _ _ c.in_ok-append_number.ensures.ok) c.in_err-write_scalar.ensures.prefix in
+pub append_leaf-returns-in_err-put_scalar-clause-prefix : goal.append_leaf-returns-in_err-put_scalar-clause-prefix
+append_leaf-returns-in_err-put_scalar-clause-prefix g t c =
+    let prefix : StartsWith c.put_scalar-2.new.out.items c.args.out.now.items = prefix_then _ _ _ (prefix_all _ _ c.in_ok-append_number.ensures.ok) c.in_err-put_scalar.ensures.prefix in
     grind (arith, prefix)
 
 pub append_leaf-returns-in_err-put_value-clause-prefix : goal.append_leaf-returns-in_err-put_value-clause-prefix
 append_leaf-returns-in_err-put_value-clause-prefix g t c =
-    let code = prefix_more _ _ _ _ (prefix_all _ _ c.in_ok-append_number.ensures.ok) c.in_ok-write_scalar.ensures.ok in
+    let code = prefix_more _ _ _ _ (prefix_all _ _ c.in_ok-append_number.ensures.ok) c.in_ok-put_scalar.ensures.ok in
     let prefix : StartsWith c.put_value.new.out.items c.args.out.now.items = prefix_then _ _ _ code c.in_err-put_value.ensures.prefix in
     grind (arith, prefix)

@@ -95,7 +95,7 @@ read_wrapper-returns-in_default-clause-gives t c = λ name is.
     steps.fact tree_of c.unwrap_single.result c.next_key.new.self (option_map leaf (single w j)) _
     (seconds.first_part w name c.args.depth_left c.args.depth (length c.args.reader.now) c.args.reader.now s j is c.in_ok-part.ensures.gives
     ∙ seconds.ended (wrapped c.args.depth_left w j (wrap (c.args.depth_left - 1) j)) c.args.depth (length c.args.reader.now) s c.next_key.new.self le key)
-    c.unwrap_single.ensures
+    c.unwrap_single.ensures.value
 
 pub read_wrapper-returns-then-not-is_code-clause-gives : goal.read_wrapper-returns-then-not-is_code-clause-gives
 read_wrapper-returns-then-not-is_code-clause-gives t c = λ name is.

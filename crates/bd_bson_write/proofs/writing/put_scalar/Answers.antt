@@ -1,6 +1,6 @@
 use Rattle.std.proofs.Common.{rules}
 use Rattle.bd_bson_write.proofs.WritingLemmas.{are_names}
-use Rattle.bd_bson_write.proofs.writing.write_scalar.Goals as goal
+use Rattle.bd_bson_write.proofs.writing.put_scalar.Goals as goal
 
 pub returns-in_ok-write_name-in-Regex-2-clause-spells : goal.returns-in_ok-write_name-in-Regex-2-clause-spells
 returns-in_ok-write_name-in-Regex-2-clause-spells c =
