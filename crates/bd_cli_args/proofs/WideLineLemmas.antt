@@ -9,7 +9,7 @@ use Rattle.bd_cli_args.specs.CommandLine.{find_options_in}
 use Rattle.bd_cli_args.specs.FileCommands.{file_app, refusal_by}
 use Rattle.bd_cli_args.specs.declared.order.WordsFault.{WordsFault}
 use Rattle.bd_cli_args.specs.declared.order.WordsFault.TheVariants.{NoMemory, Usage}
-use Rattle.bd_cli_args.specs.WideLine.{OrderView, wide_commands, check, counts_more, counts_more_in, dump, dump_app, pack, parser_refusal, serve, order, find_app, form_in, line_app, order_app, ordered_by, texts_in}
+use Rattle.bd_cli_args.specs.WideLine.{OrderView, wide_commands, check, counts_more, counts_more_in, dump, dump_app, pack, flag_in, parser_refusal, serve, serve_app, find_app, form_in, line_app, ordered_by}
 use Rattle.bd_cli_args.proofs.ProgramLemmas.{EachShape, HasOrders, IsProgram, file_given, file_orders, refused, shape_in}
 
 pub is_program : IsProgram line_app ordered_by
@@ -21,7 +21,7 @@ is_program = record {
   requires_one = λ rows c. refused MissingSubcommand c;
   each = (
     of_file (codes "check") check (λ rows. refl),
-    (of_file (codes "pack") pack (λ rows. refl), (of_file (codes "serve") serve (λ rows. refl), (finds, (dumps, (orders, tt))))),
+    (of_file (codes "pack") pack (λ rows. refl), (finds, (dumps, (serves, tt)))),
   );
 }
   where
@@ -34,8 +34,8 @@ is_program = record {
     dumps : HasOrders line_app ordered_by (shape_in line_app dump_app)
     dumps = file_orders line_app ordered_by (shape_in line_app dump_app) (λ rows file. dump file (first_of (codes "jsonFormat") rows)) refl (λ rows c. file_given _ _ c) (λ rows. refl)
 
-    orders : HasOrders line_app ordered_by (shape_in line_app order_app)
-    orders = file_orders line_app ordered_by (shape_in line_app order_app) (λ rows file. order file (texts_in (codes "path") rows)) refl (λ rows c. file_given _ _ c) (λ rows. refl)
+    serves : HasOrders line_app ordered_by (shape_in line_app serve_app)
+    serves = file_orders line_app ordered_by (shape_in line_app serve_app) (λ rows file. serve file (flag_in (codes "byValue") rows)) refl (λ rows c. file_given _ _ c) (λ rows. refl)
 
 -- what the getters read from the matches
 pub ruleset readings = (first_value-rows, one_text-rows, raw_values-rows)

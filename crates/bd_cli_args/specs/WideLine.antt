@@ -1,11 +1,10 @@
 -- The command lines that `bsonwide` accepts, by the parser's own definition,
 -- and the command that each one means.
-use Rattle.std.specs.Prelude.{List, [], ◌∷◌, ◌&&◌, ◌||◌, Bool, false, if◌then◌else◌, is_some, map, codes, string_bytes, unwrap_or, Option, Some, None}
+use Rattle.std.specs.Prelude.{List, [], ◌∷◌, ◌&&◌, ◌||◌, Bool, false, if◌then◌else◌, is_some, codes, string_bytes, Option, Some, None}
 use Rattle.std.specs.{Prelude.option_map, Prelude.option_and_then, Option.option_map_or, Option.option_or, Map.lookup}
 use Rattle.std.specs.Str.{bytes_eq}
-use Rattle.clap.specs.Lexer.{usize_max}
 use Rattle.clap.specs.Simple.{App, new_rule, subcommand_of, with_rule, with_subcommand}
-use Rattle.clap.specs.Walk.{Row, Rule, Text, all_of, first_of}
+use Rattle.clap.specs.Walk.{Row, Rule, Text, first_of}
 use Rattle.clap.specs.declared.builder.action.ArgAction.{ArgAction}
 use Rattle.bd_cli_args.specs.CommandLine.{find_app as options_app, find_options_in, with_options}
 use Rattle.bd_cli_args.specs.FileCommands.{file_app, order_by, program_app, refusal_by}
@@ -13,22 +12,11 @@ use Rattle.bd_cli_args.specs.FindOptions.{FindOptions}
 use Rattle.bd_cli_args.specs.declared.order.WordsFault.{WordsFault}
 use Rattle.bd_cli_args.specs.declared.wide_line.{Form.Form, WideOrder.WideOrder}
 
--- the argument PATH, which may be given any number of times
-abbrev pub paths_rule : Rule
-paths_rule = record (new_rule (codes "path")) {
-  range = Some (record { start_inclusive = 1; end_inclusive = usize_max });
-  action = Some ArgAction.Append;
-}
-
--- `order`, which takes a file and then paths
-abbrev pub order_app : App
-order_app = with_rule (file_app (codes "order")) paths_rule
-
 -- `dump`, which takes a file and a format
 abbrev pub dump_app : App
 dump_app = with_options (file_app (codes "dump")) ((codes "jsonFormat", false) ∷ [])
 
--- a flag `--name` of `find`
+-- a flag `--name`
 abbrev pub flag_rule : Text → Rule
 flag_rule name = record (new_rule name) { long = Some name; action = Some ArgAction.SetTrue }
 
@@ -36,11 +24,15 @@ flag_rule name = record (new_rule name) { long = Some name; action = Some ArgAct
 abbrev pub find_app : App
 find_app = with_rule (with_rule options_app (flag_rule (codes "count"))) (flag_rule (codes "bson"))
 
--- the command lines that the parser of `bsonwide` accepts: `check`, `pack` or `serve` with one file, `dump` with one file and its
--- option, `find` with one file, its options and its flags, and `order` with one file and any paths
+-- `serve` with its file and a flag
+abbrev pub serve_app : App
+serve_app = with_rule (file_app (codes "serve")) (flag_rule (codes "byValue"))
+
+-- the command lines that the parser of `bsonwide` accepts: `check` or `pack` with one file, `find` with one file, its options and
+-- its flags, `dump` with one file and its option, and `serve` with one file and its flag
 abbrev pub line_app : App
-line_app = let files = codes "check" ∷ codes "pack" ∷ codes "serve" ∷ [] in
-    with_subcommand (with_subcommand (program_app (codes "bsonwide") files find_app) dump_app.top) order_app.top
+line_app = let files = codes "check" ∷ codes "pack" ∷ [] in
+    with_subcommand (with_subcommand (program_app (codes "bsonwide") files find_app) dump_app.top) serve_app.top
 
 -- a command: the meaning of the arguments, with texts as their bytes
 pub data OrderView : Type 0 where
@@ -48,8 +40,7 @@ pub data OrderView : Type 0 where
   check : Text → OrderView
   pack : Text → OrderView
   find : Text → FindOptions → Form → OrderView
-  serve : Text → OrderView
-  order : Text → List Text → OrderView
+  serve : Text → Bool → OrderView
 
 -- the command that a `WideOrder` in memory represents
 abbrev pub meant : WideOrder → OrderView
@@ -57,12 +48,7 @@ meant (WideOrder.Dump file format) = dump (string_bytes file) (option_map string
 meant (WideOrder.Check file) = check (string_bytes file)
 meant (WideOrder.Pack file) = pack (string_bytes file)
 meant (WideOrder.Find file options form) = find (string_bytes file) options form
-meant (WideOrder.Serve file) = serve (string_bytes file)
-meant (WideOrder.Order file paths) = order (string_bytes file) (map string_bytes paths.items)
-
--- the texts of an argument; empty if it is not given
-abbrev pub texts_in : Text → List Row → List Text
-texts_in name rows = unwrap_or (all_of name rows) []
+meant (WideOrder.Serve file by_value) = serve (string_bytes file) by_value
 
 -- whether a flag is given
 abbrev pub flag_in : Text → List Row → Bool
@@ -79,8 +65,8 @@ counts_more rows = flag_in (codes "count") rows && (flag_in (codes "bson") rows 
 -- what each command does with its FILE, by its name
 abbrev pub wide_commands : List Row → List (Text × (Text → OrderView))
 wide_commands rows = (codes "dump", λ file. dump file (first_of (codes "jsonFormat") rows)) ∷ (codes "check", check) ∷ (codes "pack", pack)
-    ∷ (codes "serve", serve) ∷ (codes "find", λ file. find file (find_options_in rows) (form_in rows))
-    ∷ (codes "order", λ file. order file (texts_in (codes "path") rows)) ∷ []
+    ∷ (codes "serve", λ file. serve file (flag_in (codes "byValue") rows)) ∷ (codes "find", λ file. find file (find_options_in rows) (form_in rows))
+    ∷ []
 
 -- the command that a name and its parsed arguments mean
 abbrev pub ordered_by : Text → List Row → Option OrderView
@@ -101,7 +87,7 @@ parser_refusal words = option_or (refusal_by line_app words) (if counts_more_in 
 
 -- whether the command is `serve -`: the commands come from standard input, so the dump cannot
 abbrev pub is_serve_of_input : OrderView → Bool
-is_serve_of_input (serve file) = bytes_eq file (codes "-")
+is_serve_of_input (serve file by_value) = bytes_eq file (codes "-")
 is_serve_of_input _ = false
 
 -- whether the arguments, as the parser reads them, mean `serve` of standard input

@@ -1,11 +1,11 @@
 //! The command line of `bsonwide`: which arguments are accepted, and the command that they mean.
 
-ghost use Rattle.std.specs.Prelude.{◌≡◌, ◌⊎◌, map, string_bytes, true, false, IfErr, IfOk, IsSome, None, Some};
+ghost use Rattle.std.specs.Prelude.{◌≡◌, ◌⊎◌, true, false, IfErr, IfOk, IsSome, None, Some};
 ghost use Rattle.clap.specs.Words.{found_of, rows_of, rule_of, takes};
 ghost use Rattle.bd_cli_args.specs.CommandLine.{words_of};
 ghost use Rattle.bd_cli_args.specs.inside.FileCommands.{IsBuiltAs};
 ghost use Rattle.bd_cli_args.specs.declared.order.WordsFault.TheVariants.{NoMemory};
-ghost use Rattle.bd_cli_args.specs.WideLine.{counts_more, counts_more_in, dump_app, fault_for, find_app, flag_in, flag_rule, form_in, is_serve_of_input, line_app, meant, order_app, order_of, ordered_by, parser_refusal, paths_rule, serves_input, texts_in};
+ghost use Rattle.bd_cli_args.specs.WideLine.{counts_more, counts_more_in, dump_app, fault_for, find_app, flag_in, flag_rule, form_in, is_serve_of_input, line_app, meant, order_of, ordered_by, parser_refusal, serve_app, serves_input};
 
 use crate::command_line::{find_command, options_of, text_of, with_options};
 use crate::file_commands::{Made, explain_error, of_file, program_command};
@@ -13,7 +13,7 @@ use crate::order::{FindOptions, WordsFault};
 use clap::{Arg, ArgAction, ArgMatches};
 use std::alloc::Global;
 
-/// A command with its file and paths. The file `-` is standard input.
+/// A command with its file. The file `-` is standard input.
 #[derive(Debug, Drop)]
 pub enum WideOrder {
     /// Each document as Extended JSON in the format of this word, one a line; without a word the format is canonical.
@@ -38,11 +38,8 @@ pub enum WideOrder {
     /// A session over the dump `file`. `file` is never `-` in accepted arguments: the commands come from standard input.
     Serve {
         file: String,
-    },
-    /// Numbers as whole numbers in the same order; at these paths by their codes.
-    Order {
-        file: String,
-        paths: Vec<String>,
+        /// Whether a dump without doubles and decimal128 is served by value too.
+        by_value: bool,
     },
 }
 
@@ -59,10 +56,10 @@ pub enum Form {
 
 /// The command that the arguments mean, without the program's name.
 ///
-/// `dump FILE [--jsonFormat FORMAT]`, `check FILE`, `pack FILE`, `serve FILE` and `order FILE [PATH..]` are accepted, and
+/// `dump FILE [--jsonFormat FORMAT]`, `check FILE`, `pack FILE` and `serve FILE [--byValue]` are accepted, and
 /// `find FILE [--query Q] [--sort S] [--skip N] [--limit N] [--batch N] [--index PATH] [--after TOKEN] [--bson | --count]`, N from 0
 /// to 2,147,483,647, with the options in any order, each at most once, and FILE before or after them. `--skip` and `--limit` are 0
-/// by default. `--count` takes neither `--batch` nor `--bson` beside it. A file or a path whose name looks like a flag comes after
+/// by default. `--count` takes neither `--batch` nor `--bson` beside it. A file whose name looks like a flag comes after
 /// `--`. The file of `serve` is not `-`, since the commands of a session come from standard input.
 ///
 /// # Errors
@@ -89,7 +86,7 @@ pub fn parse_wide_words(alloc: Global, words: &[String]) -> Result<WideOrder, Wo
 fn orders_serve_of_input(order: &WideOrder) -> bool
     ensures { result ≡ is_serve_of_input (meant order.now) }
 {
-    matches!(order, WideOrder::Serve { file } if file.as_str() == "-")
+    matches!(order, WideOrder::Serve { file, .. } if file.as_str() == "-")
 }
 
 /// The command of arguments as the parser reads them, including `serve` of standard input.
@@ -171,41 +168,12 @@ fn order_named(alloc: Global, name: &str, matches: &ArgMatches<'_>) -> Result<Wi
                 form,
             })
         }
-        "serve" => Ok(WideOrder::Serve { file }),
-        "order" => {
-            let paths = texts_of(alloc, matches, "path")?;
-            Ok(WideOrder::Order { file, paths })
+        "serve" => {
+            let by_value = is_set(matches, "byValue");
+            Ok(WideOrder::Serve { file, by_value })
         }
         _ => unreachable!(),
     }
-}
-
-/// The texts of an argument, in their order; empty if it is not given.
-#[tactic(auto, using(crate::proofs::WideLineLemmas::readings))]
-fn texts_of(alloc: Global, found: &ArgMatches<'_>, name: &str) -> Result<Vec<String>, WordsFault>
-    ensures texts { IfOk result (λ v.
-        map string_bytes v.items ≡ texts_in name.now (rows_of (found_of found.now))) }
-    ensures fault { IfErr result (λ f. f ≡ NoMemory) }
-{
-    match found.get_strs(name) {
-        Some(texts) => copied(alloc, texts),
-        None => Ok(Vec::new(alloc)),
-    }
-}
-
-/// Copies of texts.
-fn copied(alloc: Global, texts: &[&str]) -> Result<Vec<String>, WordsFault>
-    ensures texts { IfOk result (λ v. map string_bytes v.items ≡ map (λ text. text.now) texts.now) }
-    ensures fault { IfErr result (λ f. f ≡ NoMemory) }
-{
-    let mut all = Vec::new(alloc);
-    for text in texts {
-        let text = String::from_str(alloc, text)?;
-        if all.push(text).is_err() {
-            return Err(WordsFault::NoMemory);
-        }
-    }
-    Ok(all)
 }
 
 /// The program's whole command line.
@@ -214,7 +182,7 @@ fn line_command<'a>(alloc: Global) -> Made<'a>
 {
     let line = program_command(alloc, "bsonwide", &FILE_COMMANDS, flagged_command(alloc)?)?;
     let line = line.subcommand(dump_command(alloc)?)?;
-    line.subcommand(order_command(alloc)?)
+    line.subcommand(serve_command(alloc)?)
 }
 
 /// The command that takes a file and a format.
@@ -222,6 +190,13 @@ fn dump_command<'a>(alloc: Global) -> Made<'a>
     ensures { IfOk result (IsBuiltAs dump_app) }
 {
     with_options(alloc, of_file(alloc, "dump")?, &[("jsonFormat", false)])
+}
+
+/// The command `serve` with its flag.
+fn serve_command<'a>(alloc: Global) -> Made<'a>
+    ensures { IfOk result (IsBuiltAs serve_app) }
+{
+    of_file(alloc, "serve")?.arg(flag_argument(alloc, "byValue"))
 }
 
 /// The command `find` with all its options and flags.
@@ -238,20 +213,5 @@ fn flag_argument<'a>(alloc: Global, name: &'a str) -> Arg<'a>
     Arg::new(alloc, name).long(name).action(ArgAction::SetTrue)
 }
 
-/// The command that takes paths after its file.
-fn order_command<'a>(alloc: Global) -> Made<'a>
-    ensures { IfOk result (IsBuiltAs order_app) }
-{
-    of_file(alloc, "order")?.arg(paths_argument(alloc))
-}
-
-fn paths_argument<'a>(alloc: Global) -> Arg<'a>
-    ensures { (rule_of result ≡ paths_rule) × (result.global ≡ false) }
-{
-    Arg::new(alloc, "path")
-        .num_args(1..)
-        .action(ArgAction::Append)
-}
-
 /// The commands that take only a file.
-const FILE_COMMANDS: [&str; 3] = ["check", "pack", "serve"];
+const FILE_COMMANDS: [&str; 2] = ["check", "pack"];

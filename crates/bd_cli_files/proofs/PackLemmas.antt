@@ -6,17 +6,17 @@ use Rattle.std.specs.Prelude.{◌⊎◌, if◌then◌else◌, is_ok, OnOk, IfSom
 use Rattle.std.specs.{List.flat_map}
 use Rattle.std.specs.Io.KnownBytes.{Consumes, IsAtEnd}
 use Rattle.bd_value.specs.{Limits.longest_document, Limits.longest_input, Tree.Doc}
-use Rattle.bd_io_device.specs.Devices.{AreReads, Reader, TakesText, Writer, WriteFailsWithin, between}
+use Rattle.bd_io_device.specs.Devices.{AreReads, Over, Reader, TakesText, Writer, WriteFailsWithin, between}
 use Rattle.bd_extjson.specs.Read.{ReadsAs, reading}
 use Rattle.bd_extjson_fault.specs.TextFault.{text_fault}
 use Rattle.bd_extjson_pack.specs.Packable.{plain, IsPackable, IsBad}
 use Rattle.bd_extjson_pack.specs.declared.line.LineFault.{LineFault}
 use Rattle.bd_cli_files.specs.{declared.pack.BadLine.BadLine, declared.pack.Packing.Packing}
-use Rattle.bd_cli_scan.specs.{declared.output.OutputFault.TheVariants.Unwritten, declared.output.Status.Status, declared.output.Status.TheVariants.Failed}
+use Rattle.bd_cli_scan.specs.{declared.output.Status.Status, declared.output.Status.TheVariants.Failed}
+use Rattle.bd_cli_scan.specs.Input.{ReadsInput}
 use Rattle.bd_cli_scan.specs.Output.{Transcript, cannot_write, error_line, no_memory, wrong_line, wrong_status}
-use Rattle.bd_cli_files.specs.Pack.{Form, IsOutputBy, IsOutputOfPack, PacksBy, PacksLines, bad_line_text, named, objects_packed, pack_output}
-use Rattle.bd_cli_scan.specs.Run.{Prints, ReportsMessage, partial_run}
-use Rattle.bd_cli_scan.proofs.OutputLemmas.{all_output, stop_output}
+use Rattle.bd_cli_files.specs.Pack.{Form, IsOutputBy, IsOutputOfPack, PacksBy, PacksLines, bad_line_text, named, objects_packed, pack_output, pack_run_by, text_run}
+use Rattle.bd_cli_scan.specs.Run.{Prints, ReportsMessage}
 use Rattle.bd_cli_files.specs.inside.Pack.{ArePacked, IsTaken, PacksFirst}
 use Rattle.bd_io_lines.specs.Lines.{IsLine, is_empty_line, is_newline, text_lines}
 use Rattle.bd_io_lines.proofs.LinesLemmas.{line_grows, lines_apart}
@@ -103,29 +103,43 @@ all_lines form lines ds None first = let p = first [] [] None (refl, refl) in rw
 all_lines form lines ds (Some bad) first = let p = first [] in rw (append-nil lines) at p
 
 module _ (form : Form) {P : Type 0} (program text : List ℕ) (packing : Packing P) (packed : ArePacked form (text_lines text) packing) (out_old out_new err_old err_new : Writer) (status : Status) where
-  -- the run printed an output of `pack` for the text
-  abbrev PrintsPacked : Type 0
-  PrintsPacked = (output : Transcript) × IsOutputBy form (Ok text) output × Prints program (partial_run output) (between out_old out_new) (between err_old err_new) status
+  abbrev PrintsText : Type 0
+  PrintsText = Prints program (text_run form text) (between out_old out_new) (between err_old err_new) status
 
+  -- the output, and that it is one of `pack` for the text
   abbrev output : Transcript
   output = pack_output form packed.0 packing.bad
 
-  prints : Prints program (partial_run output) (between out_old out_new) (between err_old err_new) status → PrintsPacked
-  prints printed = (output, (packed.0, packing.bad, all_lines form (text_lines text) packed.0 packing.bad packed.1, refl), printed)
+  all_packed : PacksBy form 1 (text_lines text) packed.0 packing.bad
+  all_packed = all_lines form (text_lines text) packed.0 packing.bad packed.1
 
-  -- the bad line, if any, and the count were reported, or that memory ran out
+  is_output : IsOutputBy form (Ok text) output
+  is_output = (packed.0, packing.bad, all_packed, refl)
+
+  -- the bad line, if any, and the count were reported, or that memory ran out for the bad line
   abbrev ReportsPacking : ℕ → Type 0
   ReportsPacking count =
       ReportsMessage (between err_old err_new) (wrong_line program (option_map bad_line_text packing.bad) ++ (decimal count ++ objects_packed)) (wrong_status (option_map bad_line_text packing.bad)) status
-      ⊎ ReportsMessage (between err_old err_new) (error_line program no_memory) Failed status
+      ⊎ ((bad : BadLine) × (packing.bad ≡ Some bad) × ReportsMessage (between err_old err_new) (error_line program no_memory) Failed status)
 
-  pub prints_packing : TakesText (between out_old out_new) packing.bytes.items → ReportsPacking packing.count → PrintsPacked
-  prints_packing wrote reported =
-      prints (all_output program out_old out_new err_old err_new status output (subst (TakesText (between out_old out_new)) packed.2 wrote) (subst ReportsPacking packed.3 reported))
+  pub prints_packing : TakesText (between out_old out_new) packing.bytes.items → ReportsPacking packing.count → PrintsText
+  prints_packing wrote reported = go (subst (TakesText (between out_old out_new)) packed.2 wrote) (subst ReportsPacking packed.3 reported)
+    where
+      go : TakesText (between out_old out_new) output.out → ReportsPacking (length packed.0) → PrintsText
+      go took (inl ends) = inl (output, is_output, took, ends)
+      go took (inr (bad, is, ends)) =
+          inr (inr (output.out, (packed.0, bad, subst (PacksBy form 1 (text_lines text) packed.0) is all_packed, refl), took, ends))
 
-  pub prints_unwritten : WriteFailsWithin (between out_old out_new) packing.bytes.items → ReportsMessage (between err_old err_new) (error_line program cannot_write) Failed status → PrintsPacked
-  prints_unwritten failed_write reported =
-      prints (stop_output program out_old out_new err_old err_new status output Unwritten (subst (WriteFailsWithin (between out_old out_new)) packed.2 failed_write) reported)
+  pub prints_unwritten : WriteFailsWithin (between out_old out_new) packing.bytes.items → ReportsMessage (between err_old err_new) (error_line program cannot_write) Failed status → PrintsText
+  prints_unwritten failed reported =
+      inr (inl ([], output.out, (output, is_output, refl, refl), subst (WriteFailsWithin (between out_old out_new)) packed.2 failed, reported))
+
+-- a run for the text that was read is a run of `pack`
+pub after_text : (form : Form) {program : List ℕ} (file : Over Reader) {out err : Over Writer} {status : Status} (text : List ℕ) → ReadsInput file (Ok text)
+    → Prints program (text_run form text) out err status → Prints program (pack_run_by form file) out err status
+after_text form file text read (inl (output, is, took, reported)) = inl (output, (Ok text, read, is), took, reported)
+after_text form file text read (inr (inl (written, piece, next, failed, reported))) = inr (inl (written, piece, (text, read, next), failed, reported))
+after_text form file text read (inr (inr (written, begun, took, reported))) = inr (inr (written, (text, read, begun), took, reported))
 
 -- ---- one more line
 

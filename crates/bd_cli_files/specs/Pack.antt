@@ -11,7 +11,7 @@ use Rattle.bd_io_lines.specs.Lines.{is_empty_line, text_lines}
 use Rattle.bd_cli_scan.specs.{Input.ReadsInput}
 use Rattle.bd_cli_files.specs.{declared.pack.BadLine.BadLine}
 use Rattle.bd_cli_scan.specs.Output.{Transcript, output_before, refusal_output}
-use Rattle.bd_cli_scan.specs.Run.{Run, run_after}
+use Rattle.bd_cli_scan.specs.Run.{Run}
 use Rattle.bd_extjson_fault.specs.declared.json_fault.JsonFaultKind.TheVariants as kinds
 use Rattle.bd_extjson_pack.specs.declared.line.LineFault.TheVariants as faults
 
@@ -71,9 +71,22 @@ IsOutputBy form (Ok text) output = (ds : List form.Document) × (bad : Option Ba
     × PacksBy form 1 (text_lines text) ds bad × (output ≡ pack_output form ds bad)
 IsOutputBy form (Err fault) output = output ≡ refusal_output (read_words fault)
 
+-- A run of `pack` for this text. Memory may run out for the message of a bad line, once all documents before it are written.
+abbrev pub text_run : Form → List ℕ → Run
+text_run form text = record {
+  IsOutput = IsOutputBy form (Ok text);
+  IsNext = λ written piece. (output : Transcript) × IsOutputBy form (Ok text) output × (written ≡ []) × (piece ≡ output.out);
+  IsBegun = λ written. (ds : List form.Document) × (bad : BadLine) × PacksBy form 1 (text_lines text) ds (Some bad)
+      × (written ≡ flat_map form.bson ds);
+}
+
 -- A run of `pack` in a form: it reads its whole input first.
 abbrev pub pack_run_by : Form → Over Reader → Run
-pack_run_by form file = run_after (ReadsInput file) (IsOutputBy form)
+pack_run_by form file = record {
+  IsOutput = λ output. (input : Result (List ℕ) ReadFault) × ReadsInput file input × IsOutputBy form input output;
+  IsNext = λ written piece. (text : List ℕ) × ReadsInput file (Ok text) × (text_run form text).IsNext written piece;
+  IsBegun = λ written. (text : List ℕ) × ReadsInput file (Ok text) × (text_run form text).IsBegun written;
+}
 
 -- ---- `bsonfind`
 

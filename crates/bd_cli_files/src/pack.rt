@@ -1,13 +1,13 @@
 //! `pack`: the documents in lines of text, as BSON.
 
-ghost use Rattle.std.specs.Prelude.{◌≡◌, ◌++◌, ◌∷◌, ◌+◌, ◌≤◌, ◌⊎◌, ℕ, List, [], Err, IfErr, IfOk, IfSome, None, OnErr, OnOk, Ok, length, decimal, option_map, string_bytes};
+ghost use Rattle.std.specs.Prelude.{◌≡◌, ◌++◌, ◌∷◌, ◌+◌, ◌≤◌, ◌⊎◌, ℕ, List, [], Err, IfErr, IfOk, IfSome, None, OnErr, OnOk, Ok, Some, length, decimal, option_map, string_bytes};
 ghost use Rattle.bd_value.specs.Limits.{longest_input};
 ghost use Rattle.bd_io_device.specs.Devices.{over};
 ghost use Rattle.bd_io_lines.specs.Lines.{text_lines};
 ghost use Rattle.bd_cli_scan.specs.Input.{ReadsInput, ReadsNoFurther};
-ghost use Rattle.bd_cli_scan.specs.Output.{Transcript, error_line, no_memory, wrong_line, wrong_status};
-ghost use Rattle.bd_cli_scan.specs.Run.{Prints, ReportsMessage, partial_run};
-ghost use Rattle.bd_cli_files.specs.Pack.{Form, IsOutputBy, bad_line_text, line_fault_text, named, objects_packed, pack_run, pack_run_by};
+ghost use Rattle.bd_cli_scan.specs.Output.{error_line, no_memory, wrong_line, wrong_status};
+ghost use Rattle.bd_cli_scan.specs.Run.{Prints, ReportsMessage};
+ghost use Rattle.bd_cli_files.specs.Pack.{Form, bad_line_text, line_fault_text, named, objects_packed, pack_run, pack_run_by, text_run};
 ghost use Rattle.bd_cli_files.specs.inside.Pack.{ArePacked, IsTaken};
 ghost use Rattle.bd_cli_scan.specs.declared.output.Status.TheVariants.{Failed};
 
@@ -134,8 +134,7 @@ fn write_packing<P: LinePacker, O: Output, E: Output>(
     err: &mut E,
 ) -> Status
     ensures { (text : List ℕ) → ArePacked P.form (text_lines text) packing.now →
-        (output : Transcript) × IsOutputBy P.form (Ok text) output
-        × Prints program.now (partial_run output)
+        Prints program.now (text_run P.form text)
         (over O.state out.old out.new) (over E.state err.old err.new) result }
 {
     match write_all(out, &packing.bytes) {
@@ -240,7 +239,7 @@ impl<P: LinePacker> Packing<P> {
     }
 }
 
-/// Reports how lines were packed, after the bytes on standard output.
+/// Reports how lines were packed, after the bytes on standard output. Memory is taken only for the message of a bad line.
 fn report_packing<P, E: Output>(
     alloc: Global,
     program: &str,
@@ -251,8 +250,9 @@ fn report_packing<P, E: Output>(
         (wrong_line program.now (option_map bad_line_text packing.now.bad)
         ++ (decimal packing.now.count ++ objects_packed))
         (wrong_status (option_map bad_line_text packing.now.bad)) result
-        ⊎ ReportsMessage (over E.state err.old err.new)
-        (error_line program.now no_memory) Failed result }
+        ⊎ ((bad : BadLine) × (packing.now.bad ≡ Some bad)
+        × ReportsMessage (over E.state err.old err.new)
+        (error_line program.now no_memory) Failed result) }
 {
     match &packing.bad {
         None => report_end(program, None, packing.count, OBJECTS_PACKED, err),

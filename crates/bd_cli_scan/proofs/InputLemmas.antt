@@ -36,7 +36,7 @@ module _ {V R : Type 0} (bytes : V → List ℕ) (size : V → ℕ) (sized : (v 
       → (IsErrOf r reads.TooLong → (n : ℕ) × (given : List ℕ) × (part : List ℕ) × (last : R) × (n < turns) × (length given ≤ limit)
       × (limit < length given + length part) × AreReads gives n old given last × gives last (Some part) new)
       → (IsErrOf r reads.TooManyTurns → (given : List ℕ) × (length given ≤ limit) × AreReads gives turns old given new)
-      → (IsErrOf r reads.NoMemory → (n : ℕ) × (given : List ℕ) × (n ≤ turns) × (length given ≤ limit) × AreReads gives n old given new)
+      → (IsErrOf r reads.NoMemory → (n : ℕ) × (given : List ℕ) × (n < turns) × (length given ≤ limit) × AreReads gives n old given new)
       → ReadsNoFurther gives old new
   no_further limit turns (Ok v) whole device long many few = let w = whole in (w.0, bytes v, w.1, w.3, inr (Some [], w.4))
   no_further limit turns (Err reads.Device) whole device long many few = let d = device refl in (d.0, d.1, d.2, d.5, inr (None, d.6))

@@ -12,8 +12,8 @@ use Rattle.bd_extjson_text.specs.Text.{escape_byte, escaped, quoted, text}
 use Rattle.bd_cli_scan.specs.{declared.output.OutputFault.OutputFault, declared.output.Status.Status, declared.output.Status.TheVariants.Failed}
 use Rattle.bd_cli_scan.specs.declared.output.OutputFault.TheVariants.{NoMemory, Unwritten}
 use Rattle.bd_cli_scan.specs.Output.{lines, Transcript, error_line, no_memory, stop_words}
-use Rattle.bd_cli_scan.specs.inside.Output.{WritesSome, WritesText}
-use Rattle.bd_cli_scan.specs.Run.{Prints, ReportsMessage, StopsWithin, partial_run, run_after}
+use Rattle.bd_cli_scan.specs.inside.Output.{StopsWithin, WritesSome, WritesText}
+use Rattle.bd_cli_scan.specs.Run.{Prints, ReportsMessage, partial_run, run_after}
 use Rattle.json.specs.Print as printed
 
 -- the lines of two lists of documents are those of both joined

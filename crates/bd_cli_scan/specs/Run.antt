@@ -1,11 +1,9 @@
 -- What a run of a command prints, for all commands.
 -- A command says which outputs its input may have, and where a run may stop before the end of one: that is its `Run`.
 use Rattle.std.specs.Prelude.{◌≡◌, ◌⊎◌, ℕ, List, [], ◌++◌, Result, Ok}
-use Rattle.bd_io_device.specs.Devices.{WriteFailsAfter, WriteFailsWithin, Over, TakesPrefix, TakesText, Writer}
+use Rattle.bd_io_device.specs.Devices.{WriteFailsAfter, WriteFailsWithin, Over, TakesText, Writer}
 use Rattle.bd_io_device.specs.declared.reading.ReadFault.{ReadFault}
 use Rattle.bd_cli_scan.specs.{declared.output.Status.Status, declared.output.Status.TheVariants.Failed}
-use Rattle.bd_cli_scan.specs.{declared.output.OutputFault.OutputFault}
-use Rattle.bd_cli_scan.specs.declared.output.OutputFault.TheVariants.{NoMemory, Unwritten}
 use Rattle.bd_cli_scan.specs.Output.{Transcript, cannot_write, error_line, no_memory}
 
 -- what a run of a command may print
@@ -59,8 +57,3 @@ run_after Reads IsOutputFor = record {
   IsBegun = λ text. (bytes : List ℕ) × (output : Transcript) × Reads (Ok bytes) × IsOutputFor (Ok bytes) output
       × (partial_run output).IsBegun text;
 }
-
--- The writer took a prefix of the text: memory ran out, or a write of the rest failed.
-abbrev pub StopsWithin : Over Writer → List ℕ → OutputFault → Type 0
-StopsWithin out text NoMemory = TakesPrefix out text
-StopsWithin out text Unwritten = WriteFailsWithin out text

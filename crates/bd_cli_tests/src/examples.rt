@@ -117,13 +117,12 @@ fn other_words(rt: HostRuntime) -> Result<(), Fail> {
     assert!(rt; requests_version(&version) && !requests_version(&[]));
     assert!(rt; is_standard_input("-") && !is_standard_input("./-"));
     let words = [
-        String::from_str(alloc, "order")?,
+        String::from_str(alloc, "serve")?,
         String::from_str(alloc, "a.bson")?,
-        String::from_str(alloc, "price*100")?,
-        String::from_str(alloc, "b")?,
+        String::from_str(alloc, "--byValue")?,
     ];
     let order = parse_wide_words(alloc, &words);
-    assert!(rt; matches!(&order, Ok(WideOrder::Order { paths, .. }) if paths.len() == 2));
+    assert!(rt; matches!(&order, Ok(WideOrder::Serve { by_value: true, .. })));
     assert!(rt; matches!(parse_wide_words(alloc, &version), Err(WordsFault::Usage)));
     Ok(())
 }
@@ -136,7 +135,15 @@ fn wide_session(rt: HostRuntime) -> Result<(), Fail> {
     words.push(String::from_str(alloc, "serve")?)?;
     words.push(String::from_str(alloc, "--")?)?;
     words.push(String::from_str(alloc, "a.bson")?)?;
-    assert!(rt; matches!(parse_wide_words(alloc, &words), Ok(WideOrder::Serve { .. })));
+    assert!(rt;
+        matches!(
+            parse_wide_words(alloc, &words),
+            Ok(WideOrder::Serve {
+                by_value: false,
+                ..
+            })
+        )
+    );
     words.truncate(2);
     words.push(String::from_str(alloc, "-")?)?;
     assert!(rt; matches!(parse_wide_words(alloc, &words), Err(WordsFault::Usage)));

@@ -1,15 +1,14 @@
 use Rattle.std.proofs.Common.{Err, inl, refl}
 use Rattle.bd_io_device.proofs.DevicesLemmas.{takes_none}
-use Rattle.bd_io_device.specs.Devices.{read_words}
+use Rattle.bd_io_device.specs.Devices.{over, read_words}
 use Rattle.bd_cli_scan.specs.Output.{refusal_output}
-use Rattle.bd_cli_scan.proofs.OutputLemmas.{after_input}
+use Rattle.bd_cli_files.proofs.PackLemmas.{after_text}
 use Rattle.bd_cli_files.proofs.pack.pack_by.Goals as goal
 
 pub returns-in-Ok-clause-packs : goal.returns-in-Ok-clause-packs
 returns-in-Ok-clause-packs g c =
     let p = c.in-Ok.ensures.packs in
-    let s = c.write_packing.ensures p.0 p.2 in
-    after_input p.0 s.0 p.1 s.1 s.2
+    after_text g.P.LinePacker.form (over g.R.Input.state c.args.input.now c.pack_input.new.input) p.0 p.1 (c.write_packing.ensures p.0 p.2)
 
 pub returns-clause-packs : goal.returns-clause-packs
 returns-clause-packs g c = inl (
