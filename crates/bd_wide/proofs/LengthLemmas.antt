@@ -122,9 +122,9 @@ long_enough bytes at = grind (arith, nat_tests)
 -- what may be written for a document's bytes, by whether there are fewer than five
 abbrev pub WholeTurn : Writes → List ℕ → List ℕ → Bool → Type 0
 WholeTurn Is bytes new true = new ≡ bytes
-WholeTurn Is bytes new false = IsNested Is 200 holders.Document [] bytes new
+WholeTurn Is bytes new false = IsNested Is 200 holders.Document bytes new
 
 -- what may be written for bytes is what may be written for a document, if there are five or more
 pub to_whole : (Is : Writes) (bytes new : List ℕ) → IsRewritten Is bytes new → WholeTurn Is bytes new (nat_lt (length bytes) 5)
 unfolding IsRewritten
-to_whole Is bytes new = elim (nat_lt (length bytes) 5) as (λ b. (elim b [ true ↦ new ≡ bytes | false ↦ IsNested Is 200 holders.Document [] bytes new ]) → WholeTurn Is bytes new b) [ true ↦ λ h. h | false ↦ λ h. h ]
+to_whole Is bytes new = elim (nat_lt (length bytes) 5) as (λ b. (elim b [ true ↦ new ≡ bytes | false ↦ IsNested Is 200 holders.Document bytes new ]) → WholeTurn Is bytes new b) [ true ↦ λ h. h | false ↦ λ h. h ]

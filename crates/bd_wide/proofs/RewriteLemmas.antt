@@ -12,7 +12,7 @@ use Rattle.bd_value.specs.declared.node.Kind.TheVariants as kinds
 use Rattle.bd_bson_view.specs.declared.raw_parts.ElementType.TheVariants.{Kept}
 use Rattle.bd_wide.specs.declared.element.Part.{Part}
 use Rattle.bd_wide.specs.declared.element.Part.TheVariants as parts
-use Rattle.bd_wide.specs.Rewritten.{Writes, Nested, Adds, first_element, least, part_of, name_in, path_of, separator, IsPart, IsElement, AreElements, IsBody, IsScoped, IsNested, scope_at, ◌>>=◌, first_zero, size_at}
+use Rattle.bd_wide.specs.Rewritten.{Writes, Nested, Adds, first_element, least, part_of, IsPart, IsElement, AreElements, IsBody, IsScoped, IsNested, scope_at, ◌>>=◌, first_zero, size_at}
 use Rattle.bd_wide.specs.inside.Rewritten.{holder_least}
 
 -- ---- the first element
@@ -40,81 +40,81 @@ shorter b bytes x is = omega (arith, first_element_takes (b ∷ bytes) x is, len
 -- ---- elements
 
 -- what may be written from there on, by the first element
-abbrev pub Turn : Writes → Nested → (List ℕ → List ℕ) → ℕ → List ℕ → Option (ElementType × ℕ × ℕ) → List ℕ → Type 0
-Turn Is nested path_in n bytes None new = new ≡ bytes
-Turn Is nested path_in n bytes (Some x) new = (one : List ℕ) × (two : List ℕ) × IsElement Is nested (path_in (take x.1 bytes)) x.0 (take x.1 bytes) (take x.2 (drop x.1 bytes)) one
-    × AreElements Is nested path_in n (drop x.2 (drop x.1 bytes)) two × (new ≡ one ++ two)
+abbrev pub Turn : Writes → Nested → ℕ → List ℕ → Option (ElementType × ℕ × ℕ) → List ℕ → Type 0
+Turn Is nested n bytes None new = new ≡ bytes
+Turn Is nested n bytes (Some x) new = (one : List ℕ) × (two : List ℕ) × IsElement Is nested x.0 (take x.1 bytes) (take x.2 (drop x.1 bytes)) one
+    × AreElements Is nested n (drop x.2 (drop x.1 bytes)) two × (new ≡ one ++ two)
 
 -- the step of the definition, which is the same
-abbrev Turned : Writes → Nested → (List ℕ → List ℕ) → ℕ → List ℕ → Option (ElementType × ℕ × ℕ) → List ℕ → Type 0
-Turned Is nested path_in n bytes f new = elim f [
+abbrev Turned : Writes → Nested → ℕ → List ℕ → Option (ElementType × ℕ × ℕ) → List ℕ → Type 0
+Turned Is nested n bytes f new = elim f [
   | None ↦ new ≡ bytes
   | Some x ↦
       let rest = drop x.1 bytes in
       let head = take x.1 bytes in
-      (one : List ℕ) × (two : List ℕ) × IsElement Is nested (path_in head) x.0 head (take x.2 rest) one
-      × AreElements Is nested path_in n (drop x.2 rest) two × (new ≡ one ++ two)
+      (one : List ℕ) × (two : List ℕ) × IsElement Is nested x.0 head (take x.2 rest) one
+      × AreElements Is nested n (drop x.2 rest) two × (new ≡ one ++ two)
 ]
 
 -- what may be written for elements is what may be written for the first one and for the others
-pub to_turn : (Is : Writes) (nested : Nested) (path_in : List ℕ → List ℕ) (n b : ℕ) (bytes new : List ℕ) → AreElements Is nested path_in (suc n) (b ∷ bytes) new → Turn Is nested path_in n (b ∷ bytes) (first_element (b ∷ bytes)) new
+pub to_turn : (Is : Writes) (nested : Nested) (n b : ℕ) (bytes new : List ℕ) → AreElements Is nested (suc n) (b ∷ bytes) new → Turn Is nested n (b ∷ bytes) (first_element (b ∷ bytes)) new
 unfolding AreElements
-to_turn Is nested path_in n b bytes new = elim (first_element (b ∷ bytes)) as (λ f. Turned Is nested path_in n (b ∷ bytes) f new → Turn Is nested path_in n (b ∷ bytes) f new) [ None ↦ λ h. h | Some x ↦ λ h. h ]
+to_turn Is nested n b bytes new = elim (first_element (b ∷ bytes)) as (λ f. Turned Is nested n (b ∷ bytes) f new → Turn Is nested n (b ∷ bytes) f new) [ None ↦ λ h. h | Some x ↦ λ h. h ]
 
-pub from_turn : (Is : Writes) (nested : Nested) (path_in : List ℕ → List ℕ) (n b : ℕ) (bytes new : List ℕ) → Turn Is nested path_in n (b ∷ bytes) (first_element (b ∷ bytes)) new → AreElements Is nested path_in (suc n) (b ∷ bytes) new
+pub from_turn : (Is : Writes) (nested : Nested) (n b : ℕ) (bytes new : List ℕ) → Turn Is nested n (b ∷ bytes) (first_element (b ∷ bytes)) new → AreElements Is nested (suc n) (b ∷ bytes) new
 unfolding AreElements
-from_turn Is nested path_in n b bytes new = elim (first_element (b ∷ bytes)) as (λ f. Turn Is nested path_in n (b ∷ bytes) f new → Turned Is nested path_in n (b ∷ bytes) f new) [ None ↦ λ h. h | Some x ↦ λ h. h ]
+from_turn Is nested n b bytes new = elim (first_element (b ∷ bytes)) as (λ f. Turn Is nested n (b ∷ bytes) f new → Turned Is nested n (b ∷ bytes) f new) [ None ↦ λ h. h | Some x ↦ λ h. h ]
 
 -- after the last step the rest is unchanged
-pub no_turn : (Is : Writes) (nested : Nested) (path_in : List ℕ → List ℕ) (bytes new : List ℕ) → AreElements Is nested path_in zero bytes new → new ≡ bytes
+pub no_turn : (Is : Writes) (nested : Nested) (bytes new : List ℕ) → AreElements Is nested zero bytes new → new ≡ bytes
 unfolding AreElements
-no_turn Is nested path_in bytes new h = h
+no_turn Is nested bytes new h = h
 
-pub none : (Is : Writes) (nested : Nested) (path_in : List ℕ → List ℕ) (n : ℕ) → AreElements Is nested path_in n [] []
+pub none : (Is : Writes) (nested : Nested) (n : ℕ) → AreElements Is nested n [] []
 unfolding AreElements
-none Is nested path_in zero = refl
-none Is nested path_in (suc n) = refl
+none Is nested zero = refl
+none Is nested (suc n) = refl
 
 -- for no elements nothing is written
-pub none_only : (Is : Writes) (nested : Nested) (path_in : List ℕ → List ℕ) (n : ℕ) (new : List ℕ) → AreElements Is nested path_in n [] new → new ≡ []
+pub none_only : (Is : Writes) (nested : Nested) (n : ℕ) (new : List ℕ) → AreElements Is nested n [] new → new ≡ []
 unfolding AreElements
-none_only Is nested path_in zero new h = h
-none_only Is nested path_in (suc n) new h = h
+none_only Is nested zero new h = h
+none_only Is nested (suc n) new h = h
 
 -- any number of steps is enough that is at least the count of the bytes
-enough : (Is : Writes) (nested : Nested) (path_in : List ℕ → List ℕ) (n m : ℕ) (bytes new : List ℕ) → length bytes ≤ n → length bytes ≤ m → AreElements Is nested path_in n bytes new → AreElements Is nested path_in m bytes new
-enough Is nested path_in n m [] new p q h = subst (λ (x : List ℕ). AreElements Is nested path_in m [] x) (sym (none_only Is nested path_in n new h)) (none Is nested path_in m)
-enough Is nested path_in zero m (b ∷ bytes) new p q h = absurd (omega arith)
-enough Is nested path_in (suc n) zero (b ∷ bytes) new p q h = absurd (omega arith)
-enough Is nested path_in (suc n) (suc m) (b ∷ bytes) new p q h =
-    let here : (f : Option (ElementType × ℕ × ℕ)) → first_element (b ∷ bytes) ≡ f → Turn Is nested path_in n (b ∷ bytes) f new → Turn Is nested path_in m (b ∷ bytes) f new = elim [
+enough : (Is : Writes) (nested : Nested) (n m : ℕ) (bytes new : List ℕ) → length bytes ≤ n → length bytes ≤ m → AreElements Is nested n bytes new → AreElements Is nested m bytes new
+enough Is nested n m [] new p q h = subst (λ (x : List ℕ). AreElements Is nested m [] x) (sym (none_only Is nested n new h)) (none Is nested m)
+enough Is nested zero m (b ∷ bytes) new p q h = absurd (omega arith)
+enough Is nested (suc n) zero (b ∷ bytes) new p q h = absurd (omega arith)
+enough Is nested (suc n) (suc m) (b ∷ bytes) new p q h =
+    let here : (f : Option (ElementType × ℕ × ℕ)) → first_element (b ∷ bytes) ≡ f → Turn Is nested n (b ∷ bytes) f new → Turn Is nested m (b ∷ bytes) f new = elim [
       | None ↦ λ is h. h
       | Some x ↦ λ is h.
           let less = shorter b bytes x is in
-          (h.0, h.1, h.2, enough Is nested path_in n m (drop x.2 (drop x.1 (b ∷ bytes))) h.1 (omega (arith, less)) (omega (arith, less)) h.3, h.4)
+          (h.0, h.1, h.2, enough Is nested n m (drop x.2 (drop x.1 (b ∷ bytes))) h.1 (omega (arith, less)) (omega (arith, less)) h.3, h.4)
     ] in
-    from_turn Is nested path_in m b bytes new (here (first_element (b ∷ bytes)) refl (to_turn Is nested path_in n b bytes new h))
+    from_turn Is nested m b bytes new (here (first_element (b ∷ bytes)) refl (to_turn Is nested n b bytes new h))
 
 pub first_element_nil : first_element [] ≡ None
 unfolding first_element
 first_element_nil = refl
 
 -- the first element, and the others
-goes_on : (Is : Writes) (nested : Nested) (path_in : List ℕ → List ℕ) (bytes : List ℕ) (x : ElementType × ℕ × ℕ) (one two : List ℕ) → Some x ≡ first_element bytes
-    → IsElement Is nested (path_in (take x.1 bytes)) x.0 (take x.1 bytes) (take x.2 (drop x.1 bytes)) one
-    → AreElements Is nested path_in (length (drop x.2 (drop x.1 bytes))) (drop x.2 (drop x.1 bytes)) two
-    → AreElements Is nested path_in (length bytes) bytes (one ++ two)
-goes_on Is nested path_in [] x one two is e r = let e = is ∙ first_element_nil in absurd cc
-goes_on Is nested path_in (b ∷ bytes) x one two is e r =
+goes_on : (Is : Writes) (nested : Nested) (bytes : List ℕ) (x : ElementType × ℕ × ℕ) (one two : List ℕ) → Some x ≡ first_element bytes
+    → IsElement Is nested x.0 (take x.1 bytes) (take x.2 (drop x.1 bytes)) one
+    → AreElements Is nested (length (drop x.2 (drop x.1 bytes))) (drop x.2 (drop x.1 bytes)) two
+    → AreElements Is nested (length bytes) bytes (one ++ two)
+goes_on Is nested [] x one two is e r = let e = is ∙ first_element_nil in absurd cc
+goes_on Is nested (b ∷ bytes) x one two is e r =
     let less = shorter b bytes x (sym is) in
     let rest : List ℕ = drop x.2 (drop x.1 (b ∷ bytes)) in
-    from_turn Is nested path_in (length bytes) b bytes (one ++ two) (subst (λ (f : Option (ElementType × ℕ × ℕ)). Turn Is nested path_in (length bytes) (b ∷ bytes) f (one ++ two)) is
-    (one, two, e, enough Is nested path_in (length rest) (length bytes) rest two (omega arith) less r, refl))
+    from_turn Is nested (length bytes) b bytes (one ++ two) (subst (λ (f : Option (ElementType × ℕ × ℕ)). Turn Is nested (length bytes) (b ∷ bytes) f (one ++ two)) is
+    (one, two, e, enough Is nested (length rest) (length bytes) rest two (omega arith) less r, refl))
 
-pub ends : (Is : Writes) (nested : Nested) (path_in : List ℕ → List ℕ) (bytes : List ℕ) → None ≡ first_element bytes → AreElements Is nested path_in (length bytes) bytes bytes
-ends Is nested path_in [] is = none Is nested path_in 0
-ends Is nested path_in (b ∷ bytes) is = from_turn Is nested path_in (length bytes) b bytes (b ∷ bytes)
-    (subst (λ (f : Option (ElementType × ℕ × ℕ)). Turn Is nested path_in (length bytes) (b ∷ bytes) f (b ∷ bytes)) is refl)
+pub ends : (Is : Writes) (nested : Nested) (bytes : List ℕ) → None ≡ first_element bytes → AreElements Is nested (length bytes) bytes bytes
+ends Is nested [] is = none Is nested 0
+ends Is nested (b ∷ bytes) is = from_turn Is nested (length bytes) b bytes (b ∷ bytes)
+    (subst (λ (f : Option (ElementType × ℕ × ℕ)). Turn Is nested (length bytes) (b ∷ bytes) f (b ∷ bytes)) is refl)
 
 -- ---- what was appended
 
@@ -125,32 +125,31 @@ pub headed : (Is : List ℕ → Type 0) (a b c head : List ℕ) → b ≡ a ++ h
 headed Is a b c head begun h = (head ++ h.0, (h.0, h.1, refl), h.2 ∙ ap (λ x. x ++ h.0) begun ∙ append_assoc a head h.0)
 
 -- the output so far, with the output for the rest, is the output for all
-abbrev pub Comes : Writes → Nested → (List ℕ → List ℕ) → List ℕ → List ℕ → List ℕ → List ℕ → Type 0
-Comes Is nested path_in bytes rest old out = (more : List ℕ) → AreElements Is nested path_in (length rest) rest more → Adds (AreElements Is nested path_in (length bytes) bytes) old (out ++ more)
+abbrev pub Comes : Writes → Nested → List ℕ → List ℕ → List ℕ → List ℕ → Type 0
+Comes Is nested bytes rest old out = (more : List ℕ) → AreElements Is nested (length rest) rest more → Adds (AreElements Is nested (length bytes) bytes) old (out ++ more)
 
-pub begins : (Is : Writes) (nested : Nested) (path_in : List ℕ → List ℕ) (bytes old : List ℕ) → Comes Is nested path_in bytes bytes old old
-begins Is nested path_in bytes old = λ more h. (more, h, refl)
+pub begins : (Is : Writes) (nested : Nested) (bytes old : List ℕ) → Comes Is nested bytes bytes old old
+begins Is nested bytes old = λ more h. (more, h, refl)
 
 -- after one more element is written, the output is for the bytes up to the next
-pub stepped : (Is : Writes) (nested : Nested) (path_in : List ℕ → List ℕ) (bytes old out now rest head more value remaining path : List ℕ) (t : ElementType) (k n : ℕ)
-    → Comes Is nested path_in bytes rest old out → Some (t, k, n) ≡ first_element rest
-    → head ≡ take k rest → more ≡ drop k rest → value ≡ take n more → remaining ≡ drop n more → path ≡ path_in head → Adds (IsElement Is nested path t head value) out now
-    → Comes Is nested path_in bytes remaining old now
-stepped Is nested path_in bytes old out now rest head more value remaining path t k n comes is p q r s w e = λ later h.
+pub stepped : (Is : Writes) (nested : Nested) (bytes old out now rest head more value remaining : List ℕ) (t : ElementType) (k n : ℕ)
+    → Comes Is nested bytes rest old out → Some (t, k, n) ≡ first_element rest
+    → head ≡ take k rest → more ≡ drop k rest → value ≡ take n more → remaining ≡ drop n more → Adds (IsElement Is nested t head value) out now
+    → Comes Is nested bytes remaining old now
+stepped Is nested bytes old out now rest head more value remaining t k n comes is p q r s e = λ later h.
     let after : List ℕ = drop n (drop k rest) in
     let v : value ≡ take n (drop k rest) = r ∙ ap (take n) q in
     let l : remaining ≡ after = s ∙ ap (drop n) q in
-    let one : IsElement Is nested (path_in (take k rest)) t (take k rest) (take n (drop k rest)) e.0 =
-    subst (λ (x : List ℕ). IsElement Is nested (path_in x) t x (take n (drop k rest)) e.0) p
-    (subst (λ (x : List ℕ). IsElement Is nested x t head (take n (drop k rest)) e.0) w (subst (λ (x : List ℕ). IsElement Is nested path t head x e.0) v e.1)) in
-    let two : AreElements Is nested path_in (length after) after later = subst (λ (x : List ℕ). AreElements Is nested path_in (length x) x later) l h in
-    let whole = comes (e.0 ++ later) (goes_on Is nested path_in rest (t, k, n) e.0 later is one two) in
+    let one : IsElement Is nested t (take k rest) (take n (drop k rest)) e.0 =
+    subst (λ (x : List ℕ). IsElement Is nested t x (take n (drop k rest)) e.0) p (subst (λ (x : List ℕ). IsElement Is nested t head x e.0) v e.1) in
+    let two : AreElements Is nested (length after) after later = subst (λ (x : List ℕ). AreElements Is nested (length x) x later) l h in
+    let whole = comes (e.0 ++ later) (goes_on Is nested rest (t, k, n) e.0 later is one two) in
     (whole.0, whole.1, ap (λ x. x ++ later) e.2 ∙ append_assoc out e.0 later ∙ whole.2)
 
-pub all_written : (Is : Writes) (nested : Nested) (path_in : List ℕ → List ℕ) (bytes old out now rest : List ℕ) → Comes Is nested path_in bytes rest old out → None ≡ first_element rest
-    → now ≡ out ++ rest → Adds (AreElements Is nested path_in (length bytes) bytes) old now
-all_written Is nested path_in bytes old out now rest comes is e =
-    let whole = comes rest (ends Is nested path_in rest is) in
+pub all_written : (Is : Writes) (nested : Nested) (bytes old out now rest : List ℕ) → Comes Is nested bytes rest old out → None ≡ first_element rest
+    → now ≡ out ++ rest → Adds (AreElements Is nested (length bytes) bytes) old now
+all_written Is nested bytes old out now rest comes is e =
+    let whole = comes rest (ends Is nested rest is) in
     (whole.0, whole.1, e ∙ whole.2)
 
 -- ---- results
@@ -203,12 +202,12 @@ opened old one two three x y p q r = omega (
 pub three_parts : (old one two three x y : List ℕ) → one ≡ old ++ number 0 → two ≡ one ++ x → three ≡ two ++ y → three ≡ (old ++ number 0) ++ (x ++ y)
 three_parts old one two three x y p q r = rw (r, q, p) (append_assoc (old ++ number 0) x y)
 
-pub body_ok : (Is : Writes) (nested : Nested) (path_in : List ℕ → List ℕ) (value old one two three out more inner last : List ℕ) (at : ℕ) → 5 ≤ length value
+pub body_ok : (Is : Writes) (nested : Nested) (value old one two three out more inner last : List ℕ) (at : ℕ) → 5 ≤ length value
     → more ≡ drop 4 value → inner ≡ take (length value - 5) more → last ≡ drop (length value - 1) value → at ≡ length old
-    → one ≡ old ++ number 0 → Adds (AreElements Is nested path_in (length inner) inner) one two → three ≡ two ++ last
-    → out ≡ take at three ++ (number (length three - at) ++ drop (at + 4) three) → Adds (IsBody Is nested path_in value) old out
+    → one ≡ old ++ number 0 → Adds (AreElements Is nested (length inner) inner) one two → three ≡ two ++ last
+    → out ≡ take at three ++ (number (length three - at) ++ drop (at + 4) three) → Adds (IsBody Is nested value) old out
 unfolding IsBody
-body_ok Is nested path_in value old one two three out more inner last at some splits_more splits_inner splits_last here p q r is =
+body_ok Is nested value old one two three out more inner last at some splits_more splits_inner splits_last here p q r is =
     let new : List ℕ = q.0 in
     let ended : length (new ++ last) + 4 ≡ length new + 5 = omega (arith, length-append new last, ap (λ xs. length xs) splits_last, length-drop (length value - 1) value) in
     let whole : out ≡ old ++ (number (length new + 5) ++ (new ++ last)) =
@@ -216,7 +215,7 @@ body_ok Is nested path_in value old one two three out more inner last at some sp
     ∙ ap (λ n. old ++ (number n ++ (new ++ last))) ended in
     let same : inner ≡ take (length value - 5) (drop 4 value) = splits_inner ∙ ap (take (length value - 5)) splits_more in (
       number (length new + 5) ++ (new ++ drop (length value - 1) value),
-      (new, subst (λ (i : List ℕ). AreElements Is nested path_in (length i) i new) same q.1, refl),
+      (new, subst (λ (i : List ℕ). AreElements Is nested (length i) i new) same q.1, refl),
       subst (λ (l : List ℕ). out ≡ old ++ (number (length new + 5) ++ (new ++ l))) splits_last whole,
     )
 
@@ -264,48 +263,44 @@ scoped_ok document value old two three out scope start at gives eight fits split
 -- ---- with n levels left
 
 -- a body with one level fewer left is a nested document, array or code with scope
-pub below : (Is : Writes) (depth_left : ℕ) (path value new : List ℕ) → 0 < depth_left
-    → (IsBody Is (IsNested Is (depth_left - 1)) (path_of false path) value new → IsNested Is depth_left holders.Document path value new)
-    × (IsBody Is (IsNested Is (depth_left - 1)) (path_of true path) value new → IsNested Is depth_left holders.Array path value new)
-    × (IsScoped (IsNested Is (depth_left - 1) holders.Document path) value new → IsNested Is depth_left holders.CodeScope path value new)
+pub below : (Is : Writes) (depth_left : ℕ) (value new : List ℕ) → 0 < depth_left
+    → (IsBody Is (IsNested Is (depth_left - 1)) value new → IsNested Is depth_left holders.Document value new)
+    × (IsBody Is (IsNested Is (depth_left - 1)) value new → IsNested Is depth_left holders.Array value new)
+    × (IsScoped (IsNested Is (depth_left - 1) holders.Document) value new → IsNested Is depth_left holders.CodeScope value new)
 unfolding IsNested
-below Is zero path value new some = absurd (omega arith)
-below Is (suc depth_left) path value new some =
+below Is zero value new some = absurd (omega arith)
+below Is (suc depth_left) value new some =
     let s : suc depth_left - 1 ≡ depth_left = omega arith in (
-      λ h. subst (λ (r : ℕ). IsBody Is (IsNested Is r) (path_of false path) value new) s h,
-      λ h. subst (λ (r : ℕ). IsBody Is (IsNested Is r) (path_of true path) value new) s h,
-      λ h. subst (λ (r : ℕ). IsScoped (IsNested Is r holders.Document path) value new) s h,
+      λ h. subst (λ (r : ℕ). IsBody Is (IsNested Is r) value new) s h,
+      λ h. subst (λ (r : ℕ). IsBody Is (IsNested Is r) value new) s h,
+      λ h. subst (λ (r : ℕ). IsScoped (IsNested Is r holders.Document) value new) s h,
     )
 
-pub nested_ok : {A B : Type 0} (r : Result A B) (Is : Writes) (depth_left : ℕ) (holder h : Holder) (path value a c : List ℕ) (P : List ℕ → Type 0)
-    → holder ≡ h → ((x : List ℕ) → P x → IsNested Is depth_left h path value x) → OnOk r (Adds P a c) → OnOk r (Adds (IsNested Is depth_left holder path value) a c)
-nested_ok (Err e) Is depth_left holder h path value a c P is f ok = _
-nested_ok (Ok y) Is depth_left holder h path value a c P is f ok =
-    (ok.0, subst (λ (k : Holder). IsNested Is depth_left k path value ok.0) (sym is) (f ok.0 ok.1), ok.2)
+pub nested_ok : {A B : Type 0} (r : Result A B) (Is : Writes) (depth_left : ℕ) (holder h : Holder) (value a c : List ℕ) (P : List ℕ → Type 0)
+    → holder ≡ h → ((x : List ℕ) → P x → IsNested Is depth_left h value x) → OnOk r (Adds P a c) → OnOk r (Adds (IsNested Is depth_left holder value) a c)
+nested_ok (Err e) Is depth_left holder h value a c P is f ok = _
+nested_ok (Ok y) Is depth_left holder h value a c P is f ok =
+    (ok.0, subst (λ (k : Holder). IsNested Is depth_left k value ok.0) (sym is) (f ok.0 ok.1), ok.2)
 
 -- ---- elements that are examined
 
 -- what is written for a part of this type is what is written for an element
-pub part_of_element : (Is : Writes) (nested : Nested) (path : List ℕ) (type : ElementType) (part : Option Part) (head value new : List ℕ) → part ≡ part_of type → IsPart Is nested part path type head value new → IsElement Is nested path type head value new
+pub part_of_element : (Is : Writes) (nested : Nested) (type : ElementType) (part : Option Part) (head value new : List ℕ) → part ≡ part_of type → IsPart Is nested part type head value new → IsElement Is nested type head value new
 unfolding IsElement
-part_of_element Is nested path type part head value new is h = subst (λ (p : Option Part). IsPart Is nested p path type head value new) is h
+part_of_element Is nested type part head value new is h = subst (λ (p : Option Part). IsPart Is nested p type head value new) is h
 
 -- an element that is examined, by its part
-pub as_part : (Is : Writes) (nested : Nested) (path : List ℕ) (type : ElementType) (part : Part) (head value a c : List ℕ) → Some part ≡ part_of type
-    → Adds (IsPart Is nested (Some part) path type head value) a c → Adds (IsElement Is nested path type head value) a c
-as_part Is nested path type part head value a c is h = (h.0, part_of_element Is nested path type (Some part) head value h.0 is h.1, h.2)
+pub as_part : (Is : Writes) (nested : Nested) (type : ElementType) (part : Part) (head value a c : List ℕ) → Some part ≡ part_of type
+    → Adds (IsPart Is nested (Some part) type head value) a c → Adds (IsElement Is nested type head value) a c
+as_part Is nested type part head value a c is h = (h.0, part_of_element Is nested type (Some part) head value h.0 is h.1, h.2)
 
-pub part_added : (Is : Writes) (nested : Nested) (part : Part) (path other : List ℕ) (type : ElementType) (head value a c : List ℕ) → path ≡ other
-    → Adds (IsPart Is nested (Some part) path type head value) a c → Adds (IsPart Is nested (Some part) other type head value) a c
-part_added Is nested part path other type head value a c same h = subst (λ (p : List ℕ). Adds (IsPart Is nested (Some part) p type head value) a c) same h
-
-pub values_added : {A B : Type 0} (r : Result A B) (Is : Writes) (nested : Nested) (part : Part) (holder : Holder) (path path_in : List ℕ) (type : ElementType) (head value a b c : List ℕ)
-    → part ≡ parts.Values holder → path ≡ path_in ++ separator holder → b ≡ a ++ head
-    → OnOk r (Adds (nested holder path value) b c) → OnOk r (Adds (IsPart Is nested (Some part) path_in type head value) a c)
-values_added (Err e) Is nested part holder path path_in type head value a b c is inside begun ok = _
-values_added (Ok x) Is nested part holder path path_in type head value a b c is inside begun ok =
-    subst (λ (p : Part). Adds (IsPart Is nested (Some p) path_in type head value) a c) (sym is)
-    (headed (nested holder (path_in ++ separator holder) value) a b c head begun (subst (λ (p : List ℕ). Adds (nested holder p value) b c) inside ok))
+pub values_added : {A B : Type 0} (r : Result A B) (Is : Writes) (nested : Nested) (part : Part) (holder : Holder) (type : ElementType) (head value a b c : List ℕ)
+    → part ≡ parts.Values holder → b ≡ a ++ head
+    → OnOk r (Adds (nested holder value) b c) → OnOk r (Adds (IsPart Is nested (Some part) type head value) a c)
+values_added (Err e) Is nested part holder type head value a b c is begun ok = _
+values_added (Ok x) Is nested part holder type head value a b c is begun ok =
+    subst (λ (p : Part). Adds (IsPart Is nested (Some p) type head value) a c) (sym is)
+    (headed (nested holder value) a b c head begun ok)
 
 -- an element that contains values has at least the bytes that its kind needs
 pub holder_takes_least : (type : ElementType) (holder : Holder) → part_of type ≡ Some (parts.Values holder) → holder_least holder ≤ least type
@@ -314,15 +309,3 @@ holder_takes_least (Kept kinds.Doc) holders.Document is = omega arith
 holder_takes_least (Kept kinds.Array) holders.Array is = omega arith
 holder_takes_least (Kept kinds.CodeScope) holders.CodeScope is = omega arith
 holder_takes_least type holder is = absurd cc
-
--- the path is truncated to what it was
-pub path_in_begins : (b : Bool) (old head : List ℕ) → StartsWith (path_of b old head) old
-path_in_begins true old head = take-length old
-path_in_begins false old head = take-append_seam old (name_in head)
-
-pub path_splits : (old path_in after new : List ℕ) (size : ℕ) → StartsWith path_in old → size ≡ length old → StartsWith after path_in → new ≡ take size after → new ≡ old
-path_splits old path_in after new size begins here begun splits = splits ∙ ap (λ n. take n after) here ∙ prefix_then old path_in after begins begun
-
--- the path of an element is truncated to that before it
-pub path_back : (b : Bool) (old head path_in after new : List ℕ) (size : ℕ) → path_in ≡ path_of b old head → size ≡ length old → StartsWith after path_in → new ≡ take size after → new ≡ old
-path_back b old head path_in after new size is here begun splits = path_splits old path_in after new size (subst (λ (p : List ℕ). StartsWith p old) (sym is) (path_in_begins b old head)) here begun splits

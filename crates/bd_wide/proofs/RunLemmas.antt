@@ -19,18 +19,18 @@ pub nothing_before : (run rest out : List ℕ) → length run - length rest ≡ 
 nothing_before run rest out none = sym (append-nil out) ∙ ap (λ n. out ++ take n run) (sym none)
 
 -- a run begins once everything before it is written
-pub comes_anew : (Is : Writes) (nested : Nested) (path_in : List ℕ → List ℕ) (bytes rest old out : List ℕ)
-    → Comes Is nested path_in bytes rest old out → Comes Is nested path_in bytes rest old (out ++ before rest rest)
-comes_anew Is nested path_in bytes rest old out comes =
-    subst (λ x. Comes Is nested path_in bytes rest old x) (sym (append-nil out) ∙ ap (λ x. out ++ x) (sym (before_itself rest))) comes
+pub comes_anew : (Is : Writes) (nested : Nested) (bytes rest old out : List ℕ)
+    → Comes Is nested bytes rest old out → Comes Is nested bytes rest old (out ++ before rest rest)
+comes_anew Is nested bytes rest old out comes =
+    subst (λ x. Comes Is nested bytes rest old x) (sym (append-nil out) ∙ ap (λ x. out ++ x) (sym (before_itself rest))) comes
 
-pub comes_flushed : (Is : Writes) (nested : Nested) (path_in : List ℕ → List ℕ) (bytes rest old out now run : List ℕ)
-    → Comes Is nested path_in bytes rest old (out ++ before run rest) → now ≡ out ++ before run rest → Comes Is nested path_in bytes rest old now
-comes_flushed Is nested path_in bytes rest old out now run comes is = subst (λ x. Comes Is nested path_in bytes rest old x) (sym is) comes
+pub comes_flushed : (Is : Writes) (nested : Nested) (bytes rest old out now run : List ℕ)
+    → Comes Is nested bytes rest old (out ++ before run rest) → now ≡ out ++ before run rest → Comes Is nested bytes rest old now
+comes_flushed Is nested bytes rest old out now run comes is = subst (λ x. Comes Is nested bytes rest old x) (sym is) comes
 
 -- an element that is not examined extends the run
-pub stays_as_it_is : (Is : Writes) (nested : Nested) (path : List ℕ) (t : ElementType) (head value : List ℕ) → None ≡ part_of t → IsElement Is nested path t head value (head ++ value)
-stays_as_it_is Is nested path t head value none = part_of_element Is nested path t None head value (head ++ value) none refl
+pub stays_as_it_is : (Is : Writes) (nested : Nested) (t : ElementType) (head value : List ℕ) → None ≡ part_of t → IsElement Is nested t head value (head ++ value)
+stays_as_it_is Is nested t head value none = part_of_element Is nested t None head value (head ++ value) none refl
 
 element_parts : (rest : List ℕ) (k n : ℕ) → rest ≡ (take k rest ++ take n (drop k rest)) ++ drop n (drop k rest)
 element_parts rest k n = sym (append_assoc (take k rest) (take n (drop k rest)) (drop n (drop k rest)) ∙ ap (λ x. take k rest ++ x) (take-append-drop n (drop k rest)) ∙ take-append-drop k rest)
@@ -43,21 +43,21 @@ before_splits run all remaining is =
     let size : length run - length remaining ≡ length all = omega (arith, ap (λ xs. length xs) is, length-append all remaining) in
     ap (λ x. take (length run - length remaining) x) is ∙ take_at all remaining (length run - length remaining) (sym size)
 
-pub run_goes_on : (Is : Writes) (nested : Nested) (path_in : List ℕ → List ℕ) (bytes old out run rest head more value remaining : List ℕ) (t : ElementType) (k n : ℕ)
-    → Comes Is nested path_in bytes rest old (out ++ before run rest) → run ≡ before run rest ++ rest → Some (t, k, n) ≡ first_element rest → None ≡ part_of t
+pub run_goes_on : (Is : Writes) (nested : Nested) (bytes old out run rest head more value remaining : List ℕ) (t : ElementType) (k n : ℕ)
+    → Comes Is nested bytes rest old (out ++ before run rest) → run ≡ before run rest ++ rest → Some (t, k, n) ≡ first_element rest → None ≡ part_of t
     → head ≡ take k rest → more ≡ drop k rest → value ≡ take n more → remaining ≡ drop n more
-    → Comes Is nested path_in bytes remaining old (out ++ before run remaining) × (run ≡ before run remaining ++ remaining)
-run_goes_on Is nested path_in bytes old out run rest head more value remaining t k n comes whole is stays p q r s =
+    → Comes Is nested bytes remaining old (out ++ before run remaining) × (run ≡ before run remaining ++ remaining)
+run_goes_on Is nested bytes old out run rest head more value remaining t k n comes whole is stays p q r s =
     let one : List ℕ = take k rest ++ take n (drop k rest) in
     let after : List ℕ = drop n (drop k rest) in
     let all : run ≡ (before run rest ++ one) ++ after = longer_run run rest one after whole (element_parts rest k n) in
     let splits : before run after ≡ before run rest ++ one = before_splits run (before run rest ++ one) after all in
-    let next = stepped Is nested path_in bytes old (out ++ before run rest) ((out ++ before run rest) ++ one) rest (take k rest) (drop k rest) (take n (drop k rest)) after (path_in (take k rest)) t k n
-    comes is refl refl refl refl refl (one, stays_as_it_is Is nested (path_in (take k rest)) t (take k rest) (take n (drop k rest)) stays, refl) in
+    let next = stepped Is nested bytes old (out ++ before run rest) ((out ++ before run rest) ++ one) rest (take k rest) (drop k rest) (take n (drop k rest)) after t k n
+    comes is refl refl refl refl (one, stays_as_it_is Is nested t (take k rest) (take n (drop k rest)) stays, refl) in
     let same : after ≡ remaining = sym (s ∙ ap (drop n) q) in
     let written : (out ++ before run rest) ++ one ≡ out ++ before run after = append_assoc out (before run rest) one ∙ ap (λ x. out ++ x) (sym splits) in
-    subst (λ (l : List ℕ). Comes Is nested path_in bytes l old (out ++ before run l) × (run ≡ before run l ++ l)) same
-    (subst (λ (x : List ℕ). Comes Is nested path_in bytes after old x) written next, all ∙ ap (λ x. x ++ after) (sym splits))
+    subst (λ (l : List ℕ). Comes Is nested bytes l old (out ++ before run l) × (run ≡ before run l ++ l)) same
+    (subst (λ (x : List ℕ). Comes Is nested bytes after old x) written next, all ∙ ap (λ x. x ++ after) (sym splits))
 
 -- the run and the rest are written together
 pub run_written : (out run rest now : List ℕ) → run ≡ before run rest ++ rest → now ≡ out ++ run → now ≡ (out ++ before run rest) ++ rest

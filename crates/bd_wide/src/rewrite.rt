@@ -3,26 +3,24 @@
 ghost use Rattle.std.specs.Prelude.{◌≡◌, ◌≤◌, ◌<◌, ◌+◌, ◌-◌, ◌++◌, List, ℕ, length, take, drop, vec_len, OnOk, OnErr, IfSome, Some};
 ghost use Rattle.std.specs.Io.{StartsWith};
 ghost use Rattle.bd_bson_view.specs.Spelling.{number};
-ghost use Rattle.bd_wide.specs.Rewritten.{least, Adds, IsElement, IsPart, AreElements, IsBody, IsScoped, IsNested, IsRewritten, part_of, path_of, scope_at as scope_at_of};
+ghost use Rattle.bd_wide.specs.Rewritten.{least, Adds, IsPart, AreElements, IsBody, IsScoped, IsNested, IsRewritten, part_of, scope_at as scope_at_of};
 ghost use Rattle.bd_wide.specs.inside.Rewritten.{holder_least};
 ghost use Rattle.bd_wide.specs.declared.element.Part.TheVariants as parts;
 ghost use Rattle.bd_bson_view.specs.declared.raw_parts.ElementType as element_type;
 ghost use Rattle.bd_bson_view.specs.declared.raw_parts.Holder.TheVariants as holders;
 
-use crate::element::{Part, enter, first_element, looked_into, separator};
+use crate::element::{Part, first_element, looked_into};
 use bd_bson_view::{ElementType, Holder, raw_parts as raw};
 use bd_value::{MOST_LEVELS, NoMemory};
 
 /// What is written for numbers.
 pub trait NumberWriter {
-    /// What may be written for an element with a number, by its path, its type, its head and its value.
-    ghost is_written: { Self →
-        List ℕ → element_type.ElementType → List ℕ → List ℕ → List ℕ → Type 0 };
+    /// What may be written for an element with a number, by its type, its head and its value.
+    ghost is_written: { Self → element_type.ElementType → List ℕ → List ℕ → List ℕ → Type 0 };
 
     /// Appends what is written for an element with a number.
     fn element(
         &self,
-        path: &[u8],
         typed: ElementType,
         head: &[u8],
         value: &[u8],
@@ -31,27 +29,25 @@ pub trait NumberWriter {
         requires head { 2 ≤ length head.now }
         requires value { least typed ≤ length value.now }
         ensures ok { OnOk result (Adds
-            (is_written self.now path.now typed head.now value.now) out.old.items out.new.items) }
+            (is_written self.now typed head.now value.now) out.old.items out.new.items) }
         ensures prefix { OnErr result (StartsWith out.new.items out.old.items) };
 }
 
-/// Appends what is written for the document that all of the bytes are. `path` is a buffer.
+/// Appends what is written for the document that all of the bytes are.
 ///
 /// # Errors
 /// On `NoMemory`, `out` is unchanged.
 pub fn write_rewritten<W: NumberWriter>(
     writer: &W,
     bytes: &[u8],
-    path: &mut Vec<u8>,
     out: &mut Vec<u8>,
 ) -> Result<(), NoMemory>
     ensures ok { OnOk result (Adds (IsRewritten (W.is_written writer.now)
         bytes.now) out.old.items out.new.items) }
     ensures err { OnErr result (out.new.items ≡ out.old.items) }
 {
-    path.clear();
     let before = out.len();
-    let written = whole(writer, bytes, path, out);
+    let written = whole(writer, bytes, out);
     if written.is_err() {
         out.truncate(before);
     }
@@ -59,13 +55,7 @@ pub fn write_rewritten<W: NumberWriter>(
 }
 
 #[tactic(auto, using(bd_value::proofs::PrefixLemmas::prefixes), unfolding(crate::specs::Rewritten::IsRewritten))]
-fn whole<W: NumberWriter>(
-    writer: &W,
-    bytes: &[u8],
-    path: &mut Vec<u8>,
-    out: &mut Vec<u8>,
-) -> Result<(), NoMemory>
-    requires { length path.old.items ≡ 0 }
+fn whole<W: NumberWriter>(writer: &W, bytes: &[u8], out: &mut Vec<u8>) -> Result<(), NoMemory>
     ensures ok { OnOk result (Adds (IsRewritten (W.is_written writer.now)
         bytes.now) out.old.items out.new.items) }
     ensures prefix { OnErr result (StartsWith out.new.items out.old.items) }
@@ -74,14 +64,7 @@ fn whole<W: NumberWriter>(
         out.extend_from_slice(bytes)?;
         return Ok(());
     }
-    nested(
-        writer,
-        MOST_LEVELS as u32,
-        Holder::Document,
-        bytes,
-        path,
-        out,
-    )
+    nested(writer, MOST_LEVELS as u32, Holder::Document, bytes, out)
 }
 
 /// Appends elements, with `depth_left` levels left below them.
@@ -90,15 +73,12 @@ fn whole<W: NumberWriter>(
 fn elements<W: NumberWriter>(
     writer: &W,
     depth_left: u32,
-    in_array: bool,
     bytes: &[u8],
-    path: &mut Vec<u8>,
     out: &mut Vec<u8>,
 ) -> Result<(), NoMemory>
     ensures ok { OnOk result (Adds (AreElements (W.is_written writer.now)
-        (IsNested (W.is_written writer.now) depth_left) (path_of
-        in_array path.old.items) (length bytes.now) bytes.now) out.old.items out.new.items) }
-    ensures path { OnOk result (path.new.items ≡ path.old.items) }
+        (IsNested (W.is_written writer.now) depth_left) (length bytes.now) bytes.now)
+        out.old.items out.new.items) }
     ensures prefix { OnErr result (StartsWith out.new.items out.old.items) }
 {
     let mut run = bytes;
@@ -108,9 +88,7 @@ fn elements<W: NumberWriter>(
         let (value, after) = more.split_at(n);
         if let Some(part) = looked_into(typed) {
             put_run(run, rest, out)?;
-            element(
-                writer, depth_left, in_array, part, typed, head, value, path, out,
-            )?;
+            element(writer, depth_left, part, typed, head, value, out)?;
             run = after;
         }
         rest = after;
@@ -140,59 +118,26 @@ fn put_run(run: &[u8], rest: &[u8], out: &mut Vec<u8>) -> Result<(), NoMemory>
 fn element<W: NumberWriter>(
     writer: &W,
     depth_left: u32,
-    in_array: bool,
     part: Part,
     typed: ElementType,
     head: &[u8],
     value: &[u8],
-    path: &mut Vec<u8>,
     out: &mut Vec<u8>,
 ) -> Result<(), NoMemory>
     requires part { part_of typed ≡ Some part }
     requires head { 2 ≤ length head.now }
     requires value { least typed ≤ length value.now }
-    ensures ok { OnOk result (Adds (IsElement (W.is_written writer.now)
-        (IsNested (W.is_written writer.now) depth_left) (path_of
-        in_array path.old.items head.now) typed head.now value.now) out.old.items out.new.items) }
-    ensures path { OnOk result (path.new.items ≡ path.old.items) }
-    ensures prefix { OnErr result (StartsWith out.new.items out.old.items) }
-{
-    let before = path.len();
-    enter(in_array, head, path)?;
-    entered(writer, depth_left, part, typed, head, value, path, out)?;
-    path.truncate(before);
-    Ok(())
-}
-
-/// Appends an element that is examined, and whose path this is.
-#[cycle(rewriting)]
-#[tactic(auto, using(bd_value::proofs::PrefixLemmas::prefixes))]
-fn entered<W: NumberWriter>(
-    writer: &W,
-    depth_left: u32,
-    part: Part,
-    typed: ElementType,
-    head: &[u8],
-    value: &[u8],
-    path: &mut Vec<u8>,
-    out: &mut Vec<u8>,
-) -> Result<(), NoMemory>
-    requires part { part_of typed ≡ Some part }
-    requires head { 2 ≤ length head.now }
-    requires value { least typed ≤ length value.now }
-    ensures ok { OnOk result (Adds (IsPart (W.is_written writer.now) (IsNested
-        (W.is_written writer.now) depth_left) (Some part)
-        path.old.items typed head.now value.now) out.old.items out.new.items) }
-    ensures path { OnOk result (StartsWith path.new.items path.old.items) }
+    ensures ok { OnOk result (Adds (IsPart (W.is_written writer.now)
+        (IsNested (W.is_written writer.now) depth_left) (Some part) typed
+        head.now value.now) out.old.items out.new.items) }
     ensures prefix { OnErr result (StartsWith out.new.items out.old.items) }
 {
     let holder = match part {
-        Part::Number => return writer.element(path, typed, head, value, out),
+        Part::Number => return writer.element(typed, head, value, out),
         Part::Values(holder) => holder,
     };
-    path.extend_from_slice(separator(holder))?;
     out.extend_from_slice(head)?;
-    nested(writer, depth_left, holder, value, path, out)
+    nested(writer, depth_left, holder, value, out)
 }
 
 /// Appends a document, an array or code with scope, with `depth_left` levels left for it.
@@ -203,13 +148,11 @@ fn nested<W: NumberWriter>(
     depth_left: u32,
     holder: Holder,
     value: &[u8],
-    path: &mut Vec<u8>,
     out: &mut Vec<u8>,
 ) -> Result<(), NoMemory>
     requires { holder_least holder ≤ length value.now }
     ensures ok { OnOk result (Adds (IsNested (W.is_written writer.now)
-        depth_left holder path.old.items value.now) out.old.items out.new.items) }
-    ensures path { OnOk result (path.new.items ≡ path.old.items) }
+        depth_left holder value.now) out.old.items out.new.items) }
     ensures prefix { OnErr result (StartsWith out.new.items out.old.items) }
 {
     if depth_left == 0 {
@@ -217,9 +160,9 @@ fn nested<W: NumberWriter>(
         return Ok(());
     }
     match holder {
-        Holder::Document => body(writer, depth_left - 1, false, value, path, out),
-        Holder::Array => body(writer, depth_left - 1, true, value, path, out),
-        Holder::CodeScope => scoped(writer, depth_left - 1, value, path, out),
+        Holder::Document => body(writer, depth_left - 1, value, out),
+        Holder::Array => body(writer, depth_left - 1, value, out),
+        Holder::CodeScope => scoped(writer, depth_left - 1, value, out),
     }
 }
 
@@ -229,22 +172,18 @@ fn nested<W: NumberWriter>(
 fn body<W: NumberWriter>(
     writer: &W,
     depth_left: u32,
-    in_array: bool,
     value: &[u8],
-    path: &mut Vec<u8>,
     out: &mut Vec<u8>,
 ) -> Result<(), NoMemory>
     requires { 5 ≤ length value.now }
     ensures ok { OnOk result (Adds (IsBody (W.is_written writer.now)
-        (IsNested (W.is_written writer.now) depth_left)
-        (path_of in_array path.old.items) value.now) out.old.items out.new.items) }
-    ensures path { OnOk result (path.new.items ≡ path.old.items) }
+        (IsNested (W.is_written writer.now) depth_left) value.now) out.old.items out.new.items) }
     ensures prefix { OnErr result (StartsWith out.new.items out.old.items) }
 {
     let (inner, last) = inner_and_last(value);
     let at = out.len();
     write_number(0, out)?;
-    elements(writer, depth_left, in_array, inner, path, out)?;
+    elements(writer, depth_left, inner, out)?;
     out.extend_from_slice(last)?;
     seal(at, out);
     Ok(())
@@ -269,18 +208,16 @@ fn scoped<W: NumberWriter>(
     writer: &W,
     depth_left: u32,
     value: &[u8],
-    path: &mut Vec<u8>,
     out: &mut Vec<u8>,
 ) -> Result<(), NoMemory>
     requires { 14 ≤ length value.now }
     ensures ok { OnOk result
         (Adds (IsScoped (IsNested (W.is_written writer.now)
-        depth_left holders.Document path.old.items) value.now) out.old.items out.new.items) }
-    ensures path { OnOk result (path.new.items ≡ path.old.items) }
+        depth_left holders.Document) value.now) out.old.items out.new.items) }
     ensures prefix { OnErr result (StartsWith out.new.items out.old.items) }
 {
     match scope_at(value) {
-        Some(at) => with_scope(writer, depth_left, at, value, path, out),
+        Some(at) => with_scope(writer, depth_left, at, value, out),
         None => {
             out.extend_from_slice(value)?;
             Ok(())
@@ -296,21 +233,19 @@ fn with_scope<W: NumberWriter>(
     depth_left: u32,
     at: usize,
     value: &[u8],
-    path: &mut Vec<u8>,
     out: &mut Vec<u8>,
 ) -> Result<(), NoMemory>
     requires offset { scope_at_of value.now ≡ Some at }
     requires inside { (8 ≤ at) × (at + 5 ≤ length value.now) }
     ensures ok { OnOk result
         (Adds (IsScoped (IsNested (W.is_written writer.now)
-        depth_left holders.Document path.old.items) value.now) out.old.items out.new.items) }
-    ensures path { OnOk result (path.new.items ≡ path.old.items) }
+        depth_left holders.Document) value.now) out.old.items out.new.items) }
     ensures prefix { OnErr result (StartsWith out.new.items out.old.items) }
 {
     let (_, scope) = value.split_at(at);
     let start = out.len();
     write_code(at, value, out)?;
-    nested(writer, depth_left, Holder::Document, scope, path, out)?;
+    nested(writer, depth_left, Holder::Document, scope, out)?;
     seal(start, out);
     Ok(())
 }
@@ -350,7 +285,7 @@ pub fn scope_at(value: &[u8]) -> Option<usize>
 }
 
 /// Writes the count of the bytes from an offset on into the four bytes at that offset.
-pub(crate) fn seal(at: usize, out: &mut Vec<u8>)
+fn seal(at: usize, out: &mut Vec<u8>)
     requires { at + 4 ≤ vec_len out.old }
     ensures { out.new.items ≡ take at out.old.items ++ (number (length out.old.items - at) ++ drop
         (at + 4) out.old.items) }
@@ -361,7 +296,7 @@ pub(crate) fn seal(at: usize, out: &mut Vec<u8>)
 
 /// Writes a number into the four bytes at an offset.
 #[tactic(auto, unfolding(bd_bson_view::specs::Spelling::number))]
-pub(crate) fn put_number(at: usize, n: u64, out: &mut Vec<u8>)
+fn put_number(at: usize, n: u64, out: &mut Vec<u8>)
     requires { at + 4 ≤ vec_len out.old }
     ensures { out.new.items ≡ take at out.old.items ++ (number n ++ drop (at + 4) out.old.items) }
 {
@@ -372,7 +307,7 @@ pub(crate) fn put_number(at: usize, n: u64, out: &mut Vec<u8>)
 
 /// The four lowest bytes of a number, the lowest first.
 #[tactic(auto, unfolding(bd_bson_view::specs::Spelling::number))]
-pub(crate) fn low_bytes(n: u64) -> [u8; 4]
+fn low_bytes(n: u64) -> [u8; 4]
     ensures { result ≡ number n }
 {
     let bytes = n.to_le_bytes();
@@ -380,7 +315,7 @@ pub(crate) fn low_bytes(n: u64) -> [u8; 4]
 }
 
 /// Appends a number as four bytes.
-pub(crate) fn write_number(n: u64, out: &mut Vec<u8>) -> Result<(), NoMemory>
+fn write_number(n: u64, out: &mut Vec<u8>) -> Result<(), NoMemory>
     ensures ok { OnOk result (out.new.items ≡ out.old.items ++ number n) }
     ensures err { OnErr result (out.new.items ≡ out.old.items) }
 {

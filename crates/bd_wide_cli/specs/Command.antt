@@ -6,7 +6,7 @@ use Rattle.bd_cli_scan.specs.{Check.check_run_under, Dump.dump_run_by, Run.Print
 use Rattle.bd_cli_files.specs.Pack.{pack_run_by}
 use Rattle.bd_wide_find.specs.Find.{wide_find_run}
 use Rattle.bd_wide_service.specs.Serve.{wide_serve_run}
-use Rattle.bd_wide_cli.specs.{Dump.all_types, Output.FiltersInput, declared.command.Command.Command}
+use Rattle.bd_wide_cli.specs.{Dump.all_types, declared.command.Command.Command}
 use Rattle.bd_wide_cli.specs.Pack as packing
 use Rattle.bd_wide_cli.specs.declared.command.Command.TheVariants as commands
 
@@ -20,21 +20,15 @@ module _ {C : Type 0} (state : C → Reader) (gives : C → Option (List ℕ) �
   RunsCommand commands.Pack file out err status = Prints (codes "bsonwide") (pack_run_by packing.all_types file) out err status
   RunsCommand (commands.Find options form) file out err status =
       Prints (codes "bsonwide") (wide_find_run form options file) out err status
-  RunsCommand commands.Serve file out err status =
-      Prints (codes "bsonwide") (wide_serve_run state gives old new file) out err status
-  RunsCommand (commands.Order order) file out err status = FiltersInput order.paths.items file out err status
+  RunsCommand (commands.Serve by_value) file out err status =
+      Prints (codes "bsonwide") (wide_serve_run state gives old new by_value file) out err status
 
 -- The command is not `serve`, so no commands are read.
 abbrev pub ReadsNoCommands : Command → Type 0
-ReadsNoCommands commands.Serve = ⊥
+ReadsNoCommands (commands.Serve by_value) = ⊥
 ReadsNoCommands _ = Unit {0}
 
 -- whether a command is `serve`
 abbrev pub is_serve : Command → Bool
-is_serve commands.Serve = true
+is_serve (commands.Serve by_value) = true
 is_serve _ = false
-
--- how many bytes of its file a command requests at once
-abbrev pub block_size : Command → ℕ
-block_size (commands.Order order) = 16384
-block_size _ = 65536

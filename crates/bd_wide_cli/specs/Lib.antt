@@ -1,6 +1,4 @@
 pub mod Command
 pub mod Dump
-pub mod Filtered
 pub mod Output
 pub mod Pack
-pub mod inside

@@ -2,19 +2,17 @@
 
 ghost use Rattle.bd_io_device.specs.Devices.{over};
 ghost use Rattle.std.specs.Prelude.{◌≡◌, option_map};
-ghost use Rattle.bd_wide_cli.specs.Command.{ReadsNoCommands, RunsCommand, block_size, is_serve};
+ghost use Rattle.bd_wide_cli.specs.Command.{ReadsNoCommands, RunsCommand, is_serve};
 ghost use Rattle.bd_wide_cli.specs.Dump.{format_named};
 
 use crate::dump::dump;
 use crate::output::PROGRAM;
 use crate::pack::WideLinePacker;
-use crate::running::filter_file;
 use bd_cli_args::{FindOptions, Form, WordsFault};
 use bd_cli_files::pack::pack_by;
 use bd_cli_scan::Status;
 use bd_cli_scan::check::check_all_types;
 use bd_io_device::{Input, Output};
-use bd_wide::Order;
 use bd_wide_dump::JsonFormat;
 use bd_wide_find::find::find;
 use bd_wide_pack::WidePacker;
@@ -33,14 +31,15 @@ pub enum Command {
     /// The documents that these options request, in this form.
     Find(FindOptions, Form),
     /// A reply to each command of a session.
-    Serve,
-    /// Each document with its number, and with whole numbers in the same order.
-    Order(Order),
+    Serve {
+        /// Whether a dump without doubles and decimal128 is served by value too.
+        by_value: bool,
+    },
 }
 
 /// Runs a command over a file, and returns the exit status: 0 if all was done, 1 after a fault of the input or of a device, or
 /// if memory runs out. It takes the memory of one document, and of what is written for it; for `Pack` that of all documents, and for
-/// `Find` and `Serve` that of the dump, and of a copy if it has a double or a decimal128.
+/// `Find` and `Serve` that of the dump, and of a copy if it is searched by value.
 ///
 /// The commands of a session are read from `commands`.
 pub fn run<R: Input, C: Input, O: Output, E: Output>(
@@ -65,19 +64,9 @@ pub fn run<R: Input, C: Input, O: Output, E: Output>(
             pack_by(alloc, PROGRAM, WideLinePacker { packer }, file, out, err)
         }
         Command::Find(options, form) => find(alloc, PROGRAM, *form, options, file, out, err),
-        Command::Serve => serve(alloc, PROGRAM, file, commands, out, err),
-        Command::Order(order) => filter_file(alloc, order, file, out, err),
-    }
-}
-
-/// How many bytes of its file a command requests from the system at once. The output of `order` is flushed before each request,
-/// so most writes are as large: a quarter of a pipe, so that its reader works beside this program, and not in turns with it.
-pub fn block_size(command: &Command) -> usize
-    ensures { result ≡ block_size command.now }
-{
-    match command {
-        Command::Order(_) => 16_384,
-        _ => 65_536,
+        Command::Serve { by_value } => {
+            serve(alloc, PROGRAM, *by_value, file, commands, out, err)
+        }
     }
 }
 
@@ -100,5 +89,5 @@ pub fn read_format(word: Option<&str>) -> Result<JsonFormat, WordsFault>
 pub fn is_serve(command: &Command) -> bool
     ensures { result ≡ is_serve command.now }
 {
-    matches!(command, Command::Serve)
+    matches!(command, Command::Serve { .. })
 }

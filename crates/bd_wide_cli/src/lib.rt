@@ -1,6 +1,6 @@
 //! The commands of `bsonwide`.
 //!
-//! What `order` writes for a dump: `specs/Filtered.antt`. The messages of a run: `specs/Output.antt`.
+//! What a run of each command prints: `specs/Command.antt`.
 //!
 //! An example, which `bd_wide_tests` proves and runs as `examples::dumped`:
 //!
@@ -27,20 +27,13 @@
 //! - `command`: `Command`, and `run`, a whole run over devices; `read_format`, the format of a word.
 //! - `dump`: the lines of documents of all types.
 //! - `pack`: the documents of all types in lines.
-//! - `frame`: the next document of a device, or bytes that begin with no document.
-//! - `running`: `order` over a whole file.
-//! - `refusal`: the message for a document that `order` refuses.
-//! - `output`: the messages on standard error.
+//! - `output`: the usage and the version.
 #![tactic(auto)]
 
 mod command;
 mod dump;
-mod frame;
 mod output;
 mod pack;
-mod refusal;
-mod running;
 
-pub use command::{Command, block_size, is_serve, read_format, run};
+pub use command::{Command, is_serve, read_format, run};
 pub use output::{PROGRAM, report, version};
-pub use running::Stop;

@@ -1,55 +1,24 @@
 //! The messages of a run on standard error. It takes no memory.
 
-ghost use Rattle.std.specs.Prelude.{◌≡◌, OnErr, OnOk, codes};
-ghost use Rattle.bd_io_device.specs.Devices.{WriteFailsWithin, TakesText, over};
+ghost use Rattle.std.specs.Prelude.{◌≡◌, codes};
+ghost use Rattle.bd_io_device.specs.Devices.{over};
 ghost use Rattle.bd_cli_main.specs.Usage.{WriterFails, report_output};
-ghost use Rattle.bd_cli_scan.specs.{Output.error_line, Run.Prints, Run.ReportsMessage, Run.run_of};
-ghost use Rattle.bd_cli_scan.specs.declared.output.Status.TheVariants.{Failed};
-ghost use Rattle.bd_wide_cli.specs.Output.{stop_words, usage, version as version_text};
+ghost use Rattle.bd_cli_scan.specs.Run.{Prints, run_of};
+ghost use Rattle.bd_wide_cli.specs.Output.{usage, version as version_text};
 
-use crate::running::Stop;
 use bd_cli_args::WordsFault;
 use bd_cli_scan::Status;
-use bd_cli_scan::output::{CANNOT_WRITE, NO_MEMORY, status_of};
-use bd_io_device::{DeviceFault, Output, write_all};
+use bd_io_device::Output;
 
 /// The name of the program, before each message.
 pub const PROGRAM: &str = "bsonwide";
-
-/// Writes the line of an error.
-#[tactic(auto, using(crate::proofs::OutputLemmas::taking))]
-pub fn write_error<E: Output>(message: &[u8], err: &mut E) -> Result<(), DeviceFault>
-    ensures ok { OnOk result (TakesText (over E.state err.old err.new)
-        (error_line (codes "bsonwide") message.now)) }
-    ensures err { OnErr result (WriteFailsWithin (over E.state err.old err.new)
-        (error_line (codes "bsonwide") message.now)) }
-{
-    write_all(err, b"bsonwide: ")?;
-    write_all(err, message)?;
-    write_all(err, b"\n")
-}
-
-/// Reports why no more of an input was filtered.
-pub(crate) fn report_stop<E: Output>(stop: &Stop, err: &mut E) -> Status
-    ensures { ReportsMessage (over E.state err.old err.new) (error_line (codes "bsonwide")
-        (stop_words stop.now)) Failed result }
-{
-    let words = match stop {
-        Stop::NoMemory => NO_MEMORY.as_bytes(),
-        Stop::Unwritten => CANNOT_WRITE.as_bytes(),
-        Stop::Unread(fault) => fault.words().as_bytes(),
-        Stop::Refused(text) => text.as_slice(),
-    };
-    status_of(write_error(words, err), Status::Failed)
-}
 
 /// The answer to a request for help and to invalid arguments.
 const USAGE: &str = "usage: bsonwide dump FILE [--jsonFormat FORMAT]
        bsonwide check FILE
        bsonwide pack FILE
        bsonwide find FILE [--query Q] [--sort S] [--skip N] [--limit N] [--batch N] [--index PATH] [--after TOKEN] [--bson | --count]
-       bsonwide serve FILE
-       bsonwide order FILE [PATH..]
+       bsonwide serve FILE [--byValue]
 ";
 
 /// Reports why arguments are not a command, and returns the exit status. It takes no memory.

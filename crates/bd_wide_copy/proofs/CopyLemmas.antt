@@ -13,7 +13,7 @@ use Rattle.bd_bson_view.specs.declared.raw_parts.Holder.TheVariants as holders
 use Rattle.bd_bson_view.specs.Spelling.{type_byte, type_at, number, string, framed, scoped, scalar_bytes, CanSpell, element, IsName, IsText, IsValue, AreFields, AreItems, IsDocument, IsValueBy, AreFieldsBy, AreItemsBy, IsDocumentBy, number_type, number_byte, IsNumber, IsValuedScalar, written_typed, valued}
 use Rattle.bd_bson_view.specs.Unique.{number_length, number_after, string_length}
 use Rattle.bd_bson_view.proofs.ValueAtLemmas as values
-use Rattle.bd_wide.specs.Rewritten.{Adds, Writes, Nested, size_at, part_of, path_of, IsPart, IsElement, AreElements, IsBody, IsScoped, IsNested, IsRewritten}
+use Rattle.bd_wide.specs.Rewritten.{Adds, Writes, Nested, size_at, part_of, IsPart, IsElement, AreElements, IsBody, IsScoped, IsNested, IsRewritten}
 use Rattle.bd_wide.proofs.RewriteLemmas.{Turn, to_turn, none_only, ScopeTurn, to_scope}
 use Rattle.bd_wide.proofs.LengthLemmas.{to_whole, WholeTurn}
 use Rattle.bd_wide_copy.proofs.SizeLemmas.{least_size, framed_le, scoped_le, parts_le}
@@ -25,45 +25,45 @@ use Rattle.bd_wide_copy.specs.Copy.{coded, coded_fields, coded_items, coded_docu
 module _ (Is : Writes) where
   -- what is written for these bytes, if they nest at most this deep, is so
   abbrev Become : (List ℕ → Type 0) → ℕ → List ℕ → Type 0
-  Become So deep bytes = (depth_left n : ℕ) (path_in : List ℕ → List ℕ) (new : List ℕ) → deep ≤ depth_left → length bytes ≤ n
-      → AreElements Is (IsNested Is depth_left) path_in n bytes new → So new
+  Become So deep bytes = (depth_left n : ℕ) (new : List ℕ) → deep ≤ depth_left → length bytes ≤ n
+      → AreElements Is (IsNested Is depth_left) n bytes new → So new
 
   -- what is written for the first element, and for the rest
-  abbrev First : ℕ → ElementType → List ℕ → List ℕ → List ℕ → ℕ → (List ℕ → List ℕ) → List ℕ → Type 0
-  First b type name v rest depth_left path_in new = (m : ℕ) × (one : List ℕ) × (two : List ℕ) × (length rest ≤ m)
-      × IsElement Is (IsNested Is depth_left) (path_in (b ∷ (name ++ 0 ∷ []))) type (b ∷ (name ++ 0 ∷ [])) v one
-      × AreElements Is (IsNested Is depth_left) path_in m rest two × (new ≡ one ++ two)
+  abbrev First : ℕ → ElementType → List ℕ → List ℕ → List ℕ → ℕ → List ℕ → Type 0
+  First b type name v rest depth_left new = (m : ℕ) × (one : List ℕ) × (two : List ℕ) × (length rest ≤ m)
+      × IsElement Is (IsNested Is depth_left) type (b ∷ (name ++ 0 ∷ [])) v one
+      × AreElements Is (IsNested Is depth_left) m rest two × (new ≡ one ++ two)
 
   split_first : (b : ℕ) (type : ElementType) (name v rest bytes : List ℕ) → IsName name → type_at b ≡ Some type
       → size_at type (v ++ rest) ≡ Some (length v) → bytes ≡ b ∷ (name ++ 0 ∷ (v ++ rest))
-      → (depth_left n : ℕ) (path_in : List ℕ → List ℕ) (new : List ℕ) → length bytes ≤ n
-      → AreElements Is (IsNested Is depth_left) path_in n bytes new → First b type name v rest depth_left path_in new
-  split_first b type name v rest bytes named typed sized is depth_left zero path_in new fits h =
+      → (depth_left n : ℕ) (new : List ℕ) → length bytes ≤ n
+      → AreElements Is (IsNested Is depth_left) n bytes new → First b type name v rest depth_left new
+  split_first b type name v rest bytes named typed sized is depth_left zero new fits h =
       absurd (omega (arith, fits, ap (λ (x : List ℕ). length x) is))
-  split_first b type name v rest bytes named typed sized is depth_left (suc n) path_in new fits h =
+  split_first b type name v rest bytes named typed sized is depth_left (suc n) new fits h =
       let nested : Nested = IsNested Is depth_left in
       let tail : List ℕ = name ++ 0 ∷ (v ++ rest) in
       let head : List ℕ = b ∷ (name ++ 0 ∷ []) in
       let k : ℕ = length name + 2 in
       let splits : b ∷ tail ≡ head ++ (v ++ rest) = ap (λ (x : List ℕ). b ∷ x) (sym (append_assoc name (0 ∷ []) (v ++ rest))) in
       let long : length head ≡ k = omega (arith, length-append name (0 ∷ [])) in
-      let begun = to_turn Is nested path_in n b tail new (subst (λ (x : List ℕ). AreElements Is nested path_in (suc n) x new) is h) in
-      let turn = subst (λ o. Turn Is nested path_in n (b ∷ tail) o new) (first_there b type name v rest named typed sized) begun in
+      let begun = to_turn Is nested n b tail new (subst (λ (x : List ℕ). AreElements Is nested (suc n) x new) is h) in
+      let turn = subst (λ o. Turn Is nested n (b ∷ tail) o new) (first_there b type name v rest named typed sized) begun in
       let headed : take k (b ∷ tail) ≡ head = ap (take k) splits ∙ take_at head (v ++ rest) k long in
       let after : drop k (b ∷ tail) ≡ v ++ rest = ap (drop k) splits ∙ drop_at head (v ++ rest) k long in
       let valued_is : take (length v) (drop k (b ∷ tail)) ≡ v = ap (take (length v)) after ∙ take_at v rest (length v) refl in
       let remaining : drop (length v) (drop k (b ∷ tail)) ≡ rest = ap (drop (length v)) after ∙ drop_at v rest (length v) refl in
-      let one = subst (λ (x : List ℕ). IsElement Is nested (path_in x) type x v turn.0) headed
-      (subst (λ (x : List ℕ). IsElement Is nested (path_in (take k (b ∷ tail))) type (take k (b ∷ tail)) x turn.0) valued_is turn.2) in
-      let two = subst (λ (x : List ℕ). AreElements Is nested path_in n x turn.1) remaining turn.3 in
+      let one = subst (λ (x : List ℕ). IsElement Is nested type x v turn.0) headed
+      (subst (λ (x : List ℕ). IsElement Is nested type (take k (b ∷ tail)) x turn.0) valued_is turn.2) in
+      let two = subst (λ (x : List ℕ). AreElements Is nested n x turn.1) remaining turn.3 in
       let size : length bytes ≡ suc (length name + suc (length v + length rest)) =
       ap (λ (x : List ℕ). length x) is ∙ omega (arith, length-append name (0 ∷ (v ++ rest)), length-append v rest) in
       (n, turn.0, turn.1, omega (arith, fits, size), one, two, turn.4)
 
   none_become : (So : List ℕ → Type 0) (deep : ℕ) (bytes : List ℕ) → So [] → bytes ≡ [] → Become So deep bytes
-  none_become So deep bytes so nil = λ depth_left n path_in new d fits h.
-      subst So (sym (none_only Is (IsNested Is depth_left) path_in n new
-      (subst (λ (x : List ℕ). AreElements Is (IsNested Is depth_left) path_in n x new) nil h))) so
+  none_become So deep bytes so nil = λ depth_left n new d fits h.
+      subst So (sym (none_only Is (IsNested Is depth_left) n new
+      (subst (λ (x : List ℕ). AreElements Is (IsNested Is depth_left) n x new) nil h))) so
 
   -- ---- documents, arrays and code with scope
 
@@ -71,67 +71,67 @@ module _ (Is : Writes) where
   abbrev Around : (List ℕ → Type 0) → List ℕ → Type 0
   Around So new = (body : List ℕ) × So body × (new ≡ framed body)
 
-  body_becomes : (So : List ℕ → Type 0) (depth_left : ℕ) (path_in : List ℕ → List ℕ) (body new : List ℕ) (deep : ℕ) → deep ≤ depth_left
-      → Become So deep body → IsBody Is (IsNested Is depth_left) path_in (framed body) new → Around So new
+  body_becomes : (So : List ℕ → Type 0) (depth_left : ℕ) (body new : List ℕ) (deep : ℕ) → deep ≤ depth_left
+      → Become So deep body → IsBody Is (IsNested Is depth_left) (framed body) new → Around So new
   unfolding IsBody
-  body_becomes So depth_left path_in body new deep d become h =
+  body_becomes So depth_left body new deep d become h =
       let value : List ℕ = framed body in
       let size : length value ≡ length body + 5 = values.framed_length body in
       let inner : take (length value - 5) (drop 4 value) ≡ body = inner_is body in
       let count : ℕ = length (take (length value - 5) (drop 4 value)) in
-      let so : So h.0 = become depth_left count path_in h.0 d (omega (arith, ap (λ (x : List ℕ). length x) inner))
-      (subst (λ (x : List ℕ). AreElements Is (IsNested Is depth_left) path_in count x h.0) inner h.1) in
+      let so : So h.0 = become depth_left count h.0 d (omega (arith, ap (λ (x : List ℕ). length x) inner))
+      (subst (λ (x : List ℕ). AreElements Is (IsNested Is depth_left) count x h.0) inner h.1) in
       let last : drop (length value - 1) value ≡ 0 ∷ [] =
       ap (drop (length value - 1)) (sym (append_assoc (number (length body + 5)) body (0 ∷ [])))
       ∙ drop_at (number (length body + 5) ++ body) (0 ∷ []) (length value - 1) (omega (arith, size, length-append (number (length body + 5)) body, number_length (length body + 5))) in
       (h.0, so, h.2 ∙ ap (λ (y : List ℕ). number (length h.0 + 5) ++ (h.0 ++ y)) last)
 
-  document_becomes : (So : List ℕ → Type 0) (depth_left : ℕ) (path body value new : List ℕ) (deep : ℕ) → suc deep ≤ depth_left
-      → Become So deep body → value ≡ framed body → IsNested Is depth_left holders.Document path value new → Around So new
+  document_becomes : (So : List ℕ → Type 0) (depth_left : ℕ) (body value new : List ℕ) (deep : ℕ) → suc deep ≤ depth_left
+      → Become So deep body → value ≡ framed body → IsNested Is depth_left holders.Document value new → Around So new
   unfolding IsNested
-  document_becomes So zero path body value new deep d become is h = absurd (omega (arith, d))
-  document_becomes So (suc depth_left) path body value new deep d become is h =
-      body_becomes So depth_left (path_of false path) body new deep (omega (arith, d)) become
-      (subst (λ (x : List ℕ). IsBody Is (IsNested Is depth_left) (path_of false path) x new) is h)
+  document_becomes So zero body value new deep d become is h = absurd (omega (arith, d))
+  document_becomes So (suc depth_left) body value new deep d become is h =
+      body_becomes So depth_left body new deep (omega (arith, d)) become
+      (subst (λ (x : List ℕ). IsBody Is (IsNested Is depth_left) x new) is h)
 
-  array_becomes : (So : List ℕ → Type 0) (depth_left : ℕ) (path body value new : List ℕ) (deep : ℕ) → suc deep ≤ depth_left
-      → Become So deep body → value ≡ framed body → IsNested Is depth_left holders.Array path value new → Around So new
+  array_becomes : (So : List ℕ → Type 0) (depth_left : ℕ) (body value new : List ℕ) (deep : ℕ) → suc deep ≤ depth_left
+      → Become So deep body → value ≡ framed body → IsNested Is depth_left holders.Array value new → Around So new
   unfolding IsNested
-  array_becomes So zero path body value new deep d become is h = absurd (omega (arith, d))
-  array_becomes So (suc depth_left) path body value new deep d become is h =
-      body_becomes So depth_left (path_of true path) body new deep (omega (arith, d)) become
-      (subst (λ (x : List ℕ). IsBody Is (IsNested Is depth_left) (path_of true path) x new) is h)
+  array_becomes So zero body value new deep d become is h = absurd (omega (arith, d))
+  array_becomes So (suc depth_left) body value new deep d become is h =
+      body_becomes So depth_left body new deep (omega (arith, d)) become
+      (subst (λ (x : List ℕ). IsBody Is (IsNested Is depth_left) x new) is h)
 
   -- code with scope around such a scope
   abbrev Scoped : List ℕ → (List ℕ → Type 0) → List ℕ → Type 0
   Scoped code So new = (body : List ℕ) × So body × (new ≡ scoped code (framed body)) × IsText code
 
-  scoped_becomes : (So : List ℕ → Type 0) (depth_left : ℕ) (path code body new : List ℕ) (deep : ℕ) → suc deep ≤ depth_left
+  scoped_becomes : (So : List ℕ → Type 0) (depth_left : ℕ) (code body new : List ℕ) (deep : ℕ) → suc deep ≤ depth_left
       → Become So deep body → IsText code → length (scoped code (framed body)) ≤ longest_document
-      → IsScoped (IsNested Is depth_left holders.Document path) (scoped code (framed body)) new → Scoped code So new
-  scoped_becomes So depth_left path code body new deep d become text short h =
-      let document : List ℕ → List ℕ → Type 0 = IsNested Is depth_left holders.Document path in
+      → IsScoped (IsNested Is depth_left holders.Document) (scoped code (framed body)) new → Scoped code So new
+  scoped_becomes So depth_left code body new deep d become text short h =
+      let document : List ℕ → List ℕ → Type 0 = IsNested Is depth_left holders.Document in
       let scope : List ℕ = framed body in
       let value : List ℕ = scoped code scope in
       let k : ℕ = 8 + (length code + 1) in
       let rest : drop 4 value ≡ string code ++ scope = number_after (length (string code ++ scope) + 4) (string code ++ scope) in
       let t : ScopeTurn document value new (Some k) = subst (λ (o : Option ℕ). ScopeTurn document value new o) (scope_there code body text short) (to_scope document value new h) in
       let splits : drop k value ≡ scope = scope_is code body in
-      let around = document_becomes So depth_left path body scope t.0 deep d become refl (subst (λ (x : List ℕ). document x t.0) splits t.1) in
+      let around = document_becomes So depth_left body scope t.0 deep d become refl (subst (λ (x : List ℕ). document x t.0) splits t.1) in
       let prefix : take (k - 4) (drop 4 value) ≡ string code = ap (take (k - 4)) rest ∙ take_at (string code) scope (k - 4) (omega (arith, string_length code)) in
       let size : k + length t.0 ≡ length (string code ++ t.0) + 4 = omega (arith, length-append (string code) t.0, string_length code) in
       let whole : new ≡ scoped code t.0 = t.2 ∙ ap₂ (λ (n : ℕ) (x : List ℕ). number n ++ (x ++ t.0)) size prefix in
       (around.0, around.1, whole ∙ ap (scoped code) around.2, text)
 
-  code_becomes : (So : List ℕ → Type 0) (depth_left : ℕ) (path code body value new : List ℕ) (deep : ℕ) → suc (suc deep) ≤ depth_left
+  code_becomes : (So : List ℕ → Type 0) (depth_left : ℕ) (code body value new : List ℕ) (deep : ℕ) → suc (suc deep) ≤ depth_left
       → Become So deep body → IsText code → value ≡ scoped code (framed body) → length value ≤ longest_document
-      → IsNested Is depth_left holders.CodeScope path value new → Scoped code So new
+      → IsNested Is depth_left holders.CodeScope value new → Scoped code So new
   unfolding IsNested
-  code_becomes So zero path code body value new deep d become text is short h = absurd (omega (arith, d))
-  code_becomes So (suc depth_left) path code body value new deep d become text is short h =
-      scoped_becomes So depth_left path code body new deep (omega (arith, d)) become text
+  code_becomes So zero code body value new deep d become text is short h = absurd (omega (arith, d))
+  code_becomes So (suc depth_left) code body value new deep d become text is short h =
+      scoped_becomes So depth_left code body new deep (omega (arith, d)) become text
       (subst (λ (x : List ℕ). length x ≤ longest_document) is short)
-      (subst (λ (x : List ℕ). IsScoped (IsNested Is depth_left holders.Document path) x new) is h)
+      (subst (λ (x : List ℕ). IsScoped (IsNested Is depth_left holders.Document) x new) is h)
 
 -- ---- depth
 
@@ -174,8 +174,8 @@ module _ (worth : ElementType → List ℕ → ℤ) (c : ℤ → Scalar) (fits :
 
   -- what is written for an element is an element with codes
   abbrev Becomes : Tree → ElementType → ℕ → List ℕ → Type 0
-  Becomes t type b bare = (depth_left : ℕ) (path name one : List ℕ) → depth t ≤ depth_left
-      → IsElement Is (IsNested Is depth_left) path type (b ∷ (name ++ 0 ∷ [])) bare one
+  Becomes t type b bare = (depth_left : ℕ) (name one : List ℕ) → depth t ≤ depth_left
+      → IsElement Is (IsNested Is depth_left) type (b ∷ (name ++ 0 ∷ [])) bare one
       → (w : List ℕ) × IsValue (coded c t) w × (one ≡ element (coded c t) name w) × Shorter bare w
 
   abbrev Step : Tree → List ℕ → Type 0
@@ -188,10 +188,10 @@ module _ (worth : ElementType → List ℕ → ℤ) (c : ℤ → Scalar) (fits :
   unfolding IsElement
   number_step z value n = (
     number_place worth z value n,
-    (λ depth_left path name one d h.
+    (λ depth_left name one d h.
         let head : List ℕ = number_byte n.kind ∷ (name ++ 0 ∷ []) in
         let written : one ≡ type_byte (scalar_kind (c (worth (number_type n.kind) n.value))) ∷ (drop 1 head ++ scalar_bytes (c (worth (number_type n.kind) n.value))) =
-        subst (λ p. IsPart Is (IsNested Is depth_left) p path (number_type n.kind) head n.value one) (number_part n.kind) h in (
+        subst (λ p. IsPart Is (IsNested Is depth_left) p (number_type n.kind) head n.value one) (number_part n.kind) h in (
           scalar_bytes (c z),
           (fits z, refl),
           written ∙ ap (λ (m : ℤ). type_byte (scalar_kind (c m)) ∷ ((name ++ 0 ∷ []) ++ scalar_bytes (c m))) n.is_worth
@@ -204,10 +204,10 @@ module _ (worth : ElementType → List ℕ → ℤ) (c : ℤ → Scalar) (fits :
   unfolding IsElement
   other_step a value o = (
     other_place a value o,
-    (λ depth_left path name one d h.
+    (λ depth_left name one d h.
         let head : List ℕ = type_byte (scalar_kind a) ∷ (name ++ 0 ∷ []) in
         let stays : one ≡ head ++ value =
-        subst (λ p. IsPart Is (IsNested Is depth_left) p path (Kept (scalar_kind a)) head value one) o.not_examined h in
+        subst (λ p. IsPart Is (IsNested Is depth_left) p (Kept (scalar_kind a)) head value one) o.not_examined h in
         subst (λ (s : Scalar). (w : List ℕ) × IsValue (leaf s) w × (one ≡ element (leaf s) name w) × Shorter value w) (sym (o.stays c))
         (value, o.spells, stays ∙ joined (type_byte (scalar_kind a)) name value, (λ four. omega arith))),
   )
@@ -223,8 +223,8 @@ module _ (worth : ElementType → List ℕ → ℤ) (c : ℤ → Scalar) (fits :
   unfolding IsElement part_of
   doc_step fs value body is short become = (
     doc_place fs body value is short,
-    (λ depth_left path name one d h.
-        let w = document_becomes Is (Fielded fs body) depth_left _ body value h.0 (fields_depth fs) d become is h.1 in (
+    (λ depth_left name one d h.
+        let w = document_becomes Is (Fielded fs body) depth_left body value h.0 (fields_depth fs) d become is h.1 in (
           h.0,
           (w.0, w.1.0, w.2),
           h.2 ∙ joined (type_byte kinds.Doc) name h.0,
@@ -237,8 +237,8 @@ module _ (worth : ElementType → List ℕ → ℤ) (c : ℤ → Scalar) (fits :
   unfolding IsElement part_of
   array_step ts value body is short become = (
     array_place ts body value is short,
-    (λ depth_left path name one d h.
-        let w = array_becomes Is (Listed ts body) depth_left _ body value h.0 (items_depth ts) d become is h.1 in (
+    (λ depth_left name one d h.
+        let w = array_becomes Is (Listed ts body) depth_left body value h.0 (items_depth ts) d become is h.1 in (
           h.0,
           (w.0, w.1.0, w.2),
           h.2 ∙ joined (type_byte kinds.Array) name h.0,
@@ -251,8 +251,8 @@ module _ (worth : ElementType → List ℕ → ℤ) (c : ℤ → Scalar) (fits :
   unfolding IsElement part_of
   code_step code fs value body is text short become = (
     code_place code fs body value is short,
-    (λ depth_left path name one d h.
-        let w = code_becomes Is (Fielded fs body) depth_left _ code body value h.0 (fields_depth fs) d become text is short h.1 in (
+    (λ depth_left name one d h.
+        let w = code_becomes Is (Fielded fs body) depth_left code body value h.0 (fields_depth fs) d become text is short h.1 in (
           h.0,
           (w.0, w.1.0, w.2, w.3),
           h.2 ∙ joined (type_byte kinds.CodeScope) name h.0,
@@ -263,12 +263,12 @@ module _ (worth : ElementType → List ℕ → ℤ) (c : ℤ → Scalar) (fits :
   field_become : (t : Tree) (fs : Fields) (name value rest bytes : List ℕ) → IsName name → bytes ≡ written_typed t name value ++ rest
       → Step t value → Become Is (Fielded fs rest) (fields_depth fs) rest
       → Become Is (Fielded (field name t fs) bytes) (max (depth t) (fields_depth fs)) bytes
-  field_become t fs name value rest bytes named is step more = λ depth_left n path_in new d enough h.
+  field_become t fs name value rest bytes named is step more = λ depth_left n new d enough h.
       let p = step.0 in
       let splits = is ∙ p.written name rest in
-      let g = split_first Is p.byte p.type name p.bare rest bytes named p.typed (p.sized rest) splits depth_left n path_in new enough h in
-      let one = step.1 depth_left (path_in (p.byte ∷ (name ++ 0 ∷ []))) name g.1 (omega (arith, d, le-max_left (depth t) (fields_depth fs))) g.4 in
-      let two = more depth_left g.0 path_in g.2 (omega (arith, d, le-max_right (depth t) (fields_depth fs))) g.3 g.5 in
+      let g = split_first Is p.byte p.type name p.bare rest bytes named p.typed (p.sized rest) splits depth_left n new enough h in
+      let one = step.1 depth_left name g.1 (omega (arith, d, le-max_left (depth t) (fields_depth fs))) g.4 in
+      let two = more depth_left g.0 g.2 (omega (arith, d, le-max_right (depth t) (fields_depth fs))) g.3 g.5 in
       let whole = g.6 ∙ ap (λ (x : List ℕ). x ++ g.2) one.2 in (
         (one.0, g.2, named, one.1, two.0, whole),
         (λ four. parts_le p.byte (type_byte (kind_of (coded c t))) name p.bare one.0 rest g.2 bytes new splits whole (one.3 four) (two.1 four)),
@@ -277,12 +277,12 @@ module _ (worth : ElementType → List ℕ → ℤ) (c : ℤ → Scalar) (fits :
   item_become : (t : Tree) (ts : Items) (name value rest bytes : List ℕ) → IsName name → bytes ≡ written_typed t name value ++ rest
       → Step t value → Become Is (Listed ts rest) (items_depth ts) rest
       → Become Is (Listed (item t ts) bytes) (max (depth t) (items_depth ts)) bytes
-  item_become t ts name value rest bytes named is step more = λ depth_left n path_in new d enough h.
+  item_become t ts name value rest bytes named is step more = λ depth_left n new d enough h.
       let p = step.0 in
       let splits = is ∙ p.written name rest in
-      let g = split_first Is p.byte p.type name p.bare rest bytes named p.typed (p.sized rest) splits depth_left n path_in new enough h in
-      let one = step.1 depth_left (path_in (p.byte ∷ (name ++ 0 ∷ []))) name g.1 (omega (arith, d, le-max_left (depth t) (items_depth ts))) g.4 in
-      let two = more depth_left g.0 path_in g.2 (omega (arith, d, le-max_right (depth t) (items_depth ts))) g.3 g.5 in
+      let g = split_first Is p.byte p.type name p.bare rest bytes named p.typed (p.sized rest) splits depth_left n new enough h in
+      let one = step.1 depth_left name g.1 (omega (arith, d, le-max_left (depth t) (items_depth ts))) g.4 in
+      let two = more depth_left g.0 g.2 (omega (arith, d, le-max_right (depth t) (items_depth ts))) g.3 g.5 in
       let whole = g.6 ∙ ap (λ (x : List ℕ). x ++ g.2) one.2 in (
         (name, one.0, g.2, named, one.1, two.0, whole),
         (λ four. parts_le p.byte (type_byte (kind_of (coded c t))) name p.bare one.0 rest g.2 bytes new splits whole (one.3 four) (two.1 four)),
@@ -320,8 +320,8 @@ module _ (worth : ElementType → List ℕ → ℤ) (c : ℤ → Scalar) (fits :
       let deep : suc (fields_depth (fields_of d)) ≤ 200 = is.shallow in
       let size : length bytes ≡ length v.0 + 5 = ap (λ (x : List ℕ). length x) v.2 ∙ values.framed_length v.0 in
       let whole : nat_lt (length bytes) 5 ≡ false = grind (arith, nat_tests, size) in
-      let turn : IsNested Is 200 holders.Document [] bytes new = subst (λ (b : Bool). WholeTurn Is bytes new b) whole (to_whole Is bytes new h) in
-      document_becomes Is (Fielded (fields_of d) v.0) 200 [] v.0 bytes new (fields_depth (fields_of d)) deep
+      let turn : IsNested Is 200 holders.Document bytes new = subst (λ (b : Bool). WholeTurn Is bytes new b) whole (to_whole Is bytes new h) in
+      document_becomes Is (Fielded (fields_of d) v.0) 200 v.0 bytes new (fields_depth (fields_of d)) deep
       (fields_become (fields_of d) v.0 v.1 (body_short v.0 bytes v.2 is.short)) v.2 turn
 
   -- what is written is the document with codes

@@ -9,7 +9,8 @@ use Rattle.bd_bson_check.specs.Dump.{AreJoined, stated_length}
 use Rattle.bd_wide.specs.Rewritten.{Adds}
 use Rattle.bd_wide_copy.proofs.PlaceLemmas.{framed_number}
 use Rattle.bd_wide_copy.specs.Copy.{IsCopy, int32_of}
-use Rattle.bd_wide_copy.specs.Dump.{coded_documents, AreJoinedBy, AreCopies, IsCopyOfDump}
+use Rattle.bd_wide_copy.specs.Dump.{coded_documents, AreJoinedBy, IsCopyOfDump}
+use Rattle.bd_wide_copy.specs.inside.Copies.{AreCopies}
 use Rattle.bd_wide_copy.specs.inside.Starts.{frame_size}
 
 -- ---- the length at the start

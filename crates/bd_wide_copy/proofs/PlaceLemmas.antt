@@ -225,6 +225,7 @@ module _ (worth : ElementType → List ℕ → ℤ) where
 
 -- ---- lengths
 
+-- the elements of a short value are short
 pub body_short : (body value : List ℕ) → value ≡ framed body → length value ≤ longest_document → length body ≤ longest_document
 body_short body value is short = omega (arith, short, ap (λ (x : List ℕ). length x) is, values.framed_length body)
 

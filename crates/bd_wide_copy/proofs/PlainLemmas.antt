@@ -79,6 +79,7 @@ module _ (worth : ElementType → List ℕ → ℤ) (f : ℤ → ℤ) (wholes : 
     items_by (item t ts) bytes h = let v = value_by t h.1 h.4 in
         (h.0, v.0, h.2, h.3, v.1, items_by ts h.2 h.5, h.6 ∙ ap (λ (x : List ℕ). x ++ h.2) (v.2 h.0))
 
+  -- a document of the nineteen kinds is the document of its worths, by value
   pub plain_by : (d : Doc) (bytes : List ℕ) → IsDocument d bytes → IsDocumentBy (valued worth) (coded_document c d) bytes
   plain_by d bytes is = record {
     spells = subst (λ (fs : Fields). IsValueBy (valued worth) (doc fs) bytes) (same_fields c d) (is.spells.0, fields_by (fields_of d) is.spells.0 is.spells.1, is.spells.2);

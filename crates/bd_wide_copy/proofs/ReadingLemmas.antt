@@ -14,7 +14,8 @@ use Rattle.bd_bson_check.proofs.ProfileLemmas.{others_are_first}
 use Rattle.bd_bson_check.proofs.FirstFaultLemmas.{IsBytes, IsBytes-take, IsBytes-drop}
 use Rattle.bd_wide_copy.specs.declared.reading.Next.{Next}
 use Rattle.bd_wide_copy.specs.Dump.{AreJoinedBy, IsUnread}
-use Rattle.bd_wide_copy.specs.inside.Starts.{starts_from, starts_of, have_no_fault, IsNextDocument}
+use Rattle.bd_wide_copy.specs.Starts.{starts_from, starts_of, have_no_fault}
+use Rattle.bd_wide_copy.specs.inside.Starts.{IsNextDocument}
 use Rattle.bd_wide_copy.proofs.StartsLemmas.{frame_states, starts_count, sound_document}
 
 joined_append : (worth : ElementType → List ℕ → ℤ) (ds es : List Doc) (a b : List ℕ) → AreJoinedBy (valued worth) ds a → AreJoinedBy (valued worth) es b

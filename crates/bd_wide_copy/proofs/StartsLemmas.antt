@@ -14,7 +14,7 @@ use Rattle.bd_bson_check.proofs.DumpLemmas.{frame_inside, found_document, docume
 use Rattle.bd_bson_check.proofs.FirstFaultLemmas.{guard_ok, IsBytes, IsBytes-take, IsBytes-drop}
 use Rattle.bd_bson_check.proofs.WideLemmas.{document_by_value}
 use Rattle.bd_wide_copy.specs.Dump.{AreJoinedBy, AreDocuments, IsCount, IsDocumentAt}
-use Rattle.bd_wide_copy.specs.inside.Starts.{starts_from, starts_of, have_no_fault}
+use Rattle.bd_wide_copy.specs.Starts.{starts_from, starts_of, have_no_fault}
 use Rattle.bd_wide_copy.specs.Copy.{coded_document, int64_of}
 use Rattle.bd_wide_copy.proofs.DumpLemmas.{five_bytes, stated_there}
 use Rattle.bd_wide_copy.proofs.PlainLemmas.{plain_by}
@@ -204,6 +204,7 @@ module _ (bytes starts : List ℕ) (fits : IsBytes bytes) (are : starts ≡ star
   begins_at worth ds j n lt = subst (λ (ss : List ℕ). Begins worth ds bytes bytes ss n) (sym are)
       (starts_begin worth ds bytes bytes (length bytes) 0 j (omega arith) refl n (omega (arith, lt, counted worth ds j)))
 
+  -- the number of a document is that of a start
   pub number_inside : (n : ℕ) → (count : ℕ) × IsCount bytes count × (n < count) → n < length starts
   number_inside n h = let d = sound_all no_worth in omega (arith, h.2, h.1 no_worth d.0 d.1, counted no_worth d.0 d.1)
 
@@ -236,13 +237,16 @@ module _ (bytes starts : List ℕ) (fits : IsBytes bytes) (are : starts ≡ star
   start_same : (n start : ℕ) → n < length starts → start ≡ get_or starts n start → start ≡ get_or starts n 0
   start_same n start lt is = is ∙ get_same starts n start 0 lt
 
+  -- a document begins inside the bytes
   pub start_inside : (n start : ℕ) → n < length starts → start ≡ get_or starts n start → start ≤ length bytes
   start_inside n start lt is = subst (λ (s : ℕ). s ≤ length bytes) (sym (start_same n start lt is)) (there n lt).inside
 
+  -- where a document begins, bytes have no fault up to the length that is stated there
   pub framed_here : (n start : ℕ) (rest : List ℕ) → n < length starts → start ≡ get_or starts n start → rest ≡ drop start bytes → Framed All start rest
   framed_here n start rest lt is rest_is =
       subst (Framed All start) (sym rest_is) (subst (λ (s : ℕ). Framed All s (drop s bytes)) (sym (start_same n start lt is)) (there n lt).framed)
 
+  -- the bytes from a start on, as many as they state, are the document with that number
   pub document_here : (n start size : ℕ) (rest document : List ℕ) → n < length starts → start ≡ get_or starts n start → rest ≡ drop start bytes
       → size ≡ stated_length rest → document ≡ take size rest → IsDocumentAt bytes n document
   document_here n start size rest document lt is rest_is stated document_is =

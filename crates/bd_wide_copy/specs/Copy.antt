@@ -41,7 +41,7 @@ coded_document c d = map (λ p. (p.0, coded c p.1)) d
 
 -- What is written for a number: its name, with the type byte and the bytes of the code of its worth.
 abbrev pub IsCodeOf : (ElementType → List ℕ → ℤ) → (ℤ → Scalar) → Writes
-IsCodeOf worth c path type head value new =
+IsCodeOf worth c type head value new =
     new ≡ type_byte (scalar_kind (c (worth type value))) ∷ (drop 1 head ++ scalar_bytes (c (worth type value)))
 
 -- the code of each number, as an int32

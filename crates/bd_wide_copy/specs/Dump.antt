@@ -3,12 +3,12 @@ use Rattle.std.specs.Prelude.{◌≡◌, ◌≤◌, ◌<◌, ◌⊎◌, ℕ, ℤ
 use Rattle.bd_value.specs.{Limits.longest_input, Tree.Doc, Tree.Scalar}
 use Rattle.bd_bson_view.specs.Spelling.{Grammar, IsDocumentBy, valued}
 use Rattle.bd_bson_view.specs.declared.raw_parts.ElementType.{ElementType}
-use Rattle.bd_bson_check.specs.{Dump.AreJoined, Dump.IsDump, Dump.frame_fault_under, Fault.HasNoOffset, Fault.IsWantOfMemory, Fault.fault_view}
+use Rattle.bd_bson_check.specs.{Dump.IsDump, Dump.frame_fault_under, Fault.HasNoOffset, Fault.IsWantOfMemory, Fault.fault_view}
 use Rattle.bd_bson_check.specs.declared.fault.{Fault.Fault, FaultKind.FaultKind}
 use Rattle.bd_bson_check.specs.declared.profile.Profile.TheVariants.{All}
 use Rattle.bd_wide_copy.specs.{Copy.coded_document, Copy.int32_of, Numbers.document_numbers}
 use Rattle.bd_wide_rank.specs.{Rank.HaveSame, Worth.worth}
-use Rattle.bd_wide_copy.specs.inside.Starts.{have_no_fault, starts_of}
+use Rattle.bd_wide_copy.specs.Starts.{have_no_fault, starts_of}
 use Rattle.bd_wide_copy.specs.declared.dump.WideDump.{WideDump}
 use Rattle.bd_wide_copy.specs.declared.starts.Starts.{Starts}
 
@@ -36,11 +36,6 @@ IsDocumentAt bytes n document = (worth : ElementType → List ℕ → ℤ) (ds :
 -- the documents, each with a code in place of each number
 abbrev pub coded_documents : (ℤ → Scalar) → List Doc → List Doc
 coded_documents c ds = map (coded_document c) ds
-
--- Of whatever documents the bytes are by value: these are the bytes of the documents with codes, in the same order, and no longer.
-abbrev pub AreCopies : (ElementType → List ℕ → ℤ) → (ℤ → ℤ) → List ℕ → List ℕ → Type 0
-AreCopies worth code bytes new = (ds : List Doc) → AreJoinedBy (valued worth) ds bytes
-    → AreJoined (coded_documents (int32_of code) ds) new × (length new ≤ length bytes)
 
 -- Of whatever documents the bytes are by value: this is the dump of the documents with codes, in the same order, and it is no longer.
 abbrev pub IsCopyOfDump : (ElementType → List ℕ → ℤ) → (ℤ → ℤ) → List ℕ → List ℕ → Type 0

@@ -1,4 +1,5 @@
 pub mod Copy
 pub mod Numbers
+pub mod Starts
 pub mod Dump
 pub mod inside

@@ -1,3 +1,4 @@
 pub mod Collected
 pub mod Added
 pub mod Starts
+pub mod Copies

@@ -4,7 +4,7 @@ ghost use Rattle.std.specs.Prelude.{◌≡◌, ◌≤◌, ◌++◌, ℤ, FitsSig
 ghost use Rattle.std.specs.Int.{w32};
 ghost use Rattle.std.specs.Io.{StartsWith};
 ghost use Rattle.bd_wide.specs.Rewritten.{Adds};
-ghost use Rattle.bd_wide_copy.specs.Dump.{AreCopies};
+ghost use Rattle.bd_wide_copy.specs.inside.Copies.{AreCopies};
 ghost use Rattle.bd_wide_copy.specs.Numbers.{AreNumbersOf};
 ghost use Rattle.bd_wide_copy.specs.inside.Added.{AddsWorths};
 ghost use Rattle.bd_wide_copy.specs.inside.Starts.{frame_size as frame_size_of};
@@ -37,7 +37,6 @@ fn frame_size(bytes: &[u8]) -> Option<usize>
 
 /// Appends the copy of each document of a dump. After `NoMemory`, `out` may have more bytes.
 pub(crate) fn write_copies<C: Codes>(
-    alloc: Global,
     codes: &C,
     bytes: &[u8],
     out: &mut Vec<u8>,
@@ -50,7 +49,7 @@ pub(crate) fn write_copies<C: Codes>(
     let mut rest = bytes;
     while let Some(size) = frame_size(rest) {
         let (document, after) = rest.split_at(size);
-        write_copy(alloc, codes, document, out)?;
+        write_copy(codes, document, out)?;
         rest = after;
     }
     Ok(())

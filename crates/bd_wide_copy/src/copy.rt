@@ -11,7 +11,6 @@ ghost use Rattle.bd_wide_copy.specs.Copy.{IsCodeOf, IsCopy, int32_of};
 use bd_bson_view::ElementType;
 use bd_value::NoMemory;
 use bd_wide::{NumberWriter, write_rewritten};
-use std::alloc::Global;
 
 /// Codes of numbers: each is that of what the number is worth.
 pub trait Codes {
@@ -39,7 +38,6 @@ impl<'a, C: Codes> NumberWriter for Copier<'a, C> {
     #[tactic(auto, using(bd_value::proofs::PrefixLemmas::prefixes))]
     fn element(
         &self,
-        _path: &[u8],
         typed: ElementType,
         head: &[u8],
         value: &[u8],
@@ -76,18 +74,11 @@ fn write_number(n: u32, out: &mut Vec<u8>) -> Result<(), NoMemory>
 ///
 /// # Errors
 /// On `NoMemory`, `out` is unchanged.
-pub fn write_copy<C: Codes>(
-    alloc: Global,
-    codes: &C,
-    document: &[u8],
-    out: &mut Vec<u8>,
-) -> Result<(), NoMemory>
+pub fn write_copy<C: Codes>(codes: &C, document: &[u8], out: &mut Vec<u8>) -> Result<(), NoMemory>
     requires { (z : ℤ) → FitsSigned w32 (C.code_of codes.now z) }
     ensures ok { OnOk result (Adds (IsCopy (C.worth_of codes.now)
         (C.code_of codes.now) document.now) out.old.items out.new.items) }
     ensures err { OnErr result (out.new.items ≡ out.old.items) }
 {
-    let copier = Copier { codes };
-    let mut path = Vec::new(alloc);
-    write_rewritten(&copier, document, &mut path, out)
+    write_rewritten(&Copier { codes }, document, out)
 }

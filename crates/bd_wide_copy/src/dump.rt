@@ -3,7 +3,7 @@
 ghost use Rattle.std.specs.Prelude.{◌≡◌, ◌≤◌, ◌<◌, ℕ, length, slice_index, true};
 ghost use Rattle.bd_value.specs.Limits.{longest_input};
 ghost use Rattle.bd_bson_check.specs.declared.profile.Profile.TheVariants.{All, Named};
-ghost use Rattle.bd_wide_copy.specs.inside.Starts.{have_no_fault, starts_of};
+ghost use Rattle.bd_wide_copy.specs.Starts.{have_no_fault, starts_of};
 
 use crate::copies::{add_all, write_copies};
 use crate::copy::Codes;
@@ -70,19 +70,14 @@ impl WideDump {
     ///
     /// # Errors
     /// On `NoMemory`, `out` is unchanged.
-    pub fn write_copy<C: Codes>(
-        &self,
-        alloc: Global,
-        codes: &C,
-        out: &mut Vec<u8>,
-    ) -> Result<(), NoMemory>
+    pub fn write_copy<C: Codes>(&self, codes: &C, out: &mut Vec<u8>) -> Result<(), NoMemory>
         requires { (z : ℤ) → FitsSigned w32 (C.code_of codes.now z) }
         ensures ok { OnOk result (Adds (IsCopyOfDump (C.worth_of codes.now)
             (C.code_of codes.now) (bytes_of self.now)) out.old.items out.new.items) }
         ensures err { OnErr result (out.new.items ≡ out.old.items) }
     {
         let before = out.len();
-        let written = write_copies(alloc, codes, &self.bytes, out);
+        let written = write_copies(codes, &self.bytes, out);
         if written.is_err() {
             out.truncate(before);
         }

@@ -8,7 +8,8 @@ ghost use Rattle.bd_bson_check.specs.Fault.{ReportsFault};
 ghost use Rattle.bd_bson_check.specs.FirstFault.{fault_under};
 ghost use Rattle.bd_bson_check.specs.declared.profile.Profile.TheVariants.{All, Named};
 ghost use Rattle.bd_wide_copy.specs.Dump.{AreDocuments, IsUnread, bytes_of};
-ghost use Rattle.bd_wide_copy.specs.inside.Starts.{IsNext, have_no_fault, starts_of};
+ghost use Rattle.bd_wide_copy.specs.Starts.{have_no_fault, starts_of};
+ghost use Rattle.bd_wide_copy.specs.inside.Starts.{IsNext};
 
 use crate::dump::WideDump;
 use bd_bson_check::{

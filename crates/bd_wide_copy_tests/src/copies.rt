@@ -32,7 +32,7 @@ impl Codes for Seven {
 fn all_types(rt: HostRuntime) -> Result<(), Fail> {
     let alloc = rt.alloc();
     let mut out = Vec::new(alloc);
-    write_copy(alloc, &Seven, DOCUMENT, &mut out)?;
+    write_copy(&Seven, DOCUMENT, &mut out)?;
     assert!(rt; out.as_slice() == COPY);
     Ok(())
 }
@@ -61,7 +61,7 @@ fn decimal128(rt: HostRuntime) -> Result<(), Fail> {
     // {"d":1.5}, a decimal128: the coefficient 15, and the exponent -1, which is 6175 with its bias, before the 48 bits below it
     let document = b"\x18\0\0\0\x13d\0\x0f\0\0\0\0\0\0\0\0\0\0\0\0\0\x3e\x30\0";
     let mut out = Vec::new(alloc);
-    write_copy(alloc, &Seven, document, &mut out)?;
+    write_copy(&Seven, document, &mut out)?;
     assert!(rt; out.as_slice() == b"\x0c\0\0\0\x10d\0\x07\0\0\0\0".as_slice());
     let mut numbers = Vec::new(alloc);
     collect_numbers(document, &mut numbers)?;

@@ -17,7 +17,8 @@ use Rattle.bd_bson_view.proofs.ElementsLemmas.{head_at}
 use Rattle.bd_wide_dump.specs.Raw.{raw, byte_of}
 use Rattle.bd_wide_dump.specs.declared.format.JsonFormat.{JsonFormat}
 use Rattle.bd_wide_dump.specs.WideText.{IsKindText, IsScalarText}
-use Rattle.bd_wide_dump.specs.inside.Begins.{values_in, HasElements, is_whole, IsTyped, a_number, a_scalar, a_document, an_array, a_code, IsElement, wide_size, HasSize}
+use Rattle.bd_wide_dump.specs.Values.{values_in}
+use Rattle.bd_wide_dump.specs.inside.Begins.{HasElements, is_whole, IsTyped, a_number, a_scalar, a_document, an_array, a_code, IsElement, wide_size, HasSize}
 
 -- ---- type bytes
 

@@ -19,7 +19,8 @@ use Rattle.bd_wide_dump.specs.Raw.{raw}
 use Rattle.bd_wide_dump.specs.declared.format.JsonFormat.{JsonFormat}
 use Rattle.bd_wide_dump.specs.WideText.{AreBytes, IsTextOf, IsTextOfBytes, AreTexts, AreMembers}
 use Rattle.bd_bson_view.specs.declared.raw_parts.ElementType.{ElementType}
-use Rattle.bd_wide_dump.specs.inside.Begins.{values_in, HasElements, HasValue, IsElement, AppendsBy, AppendsText}
+use Rattle.bd_wide_dump.specs.Values.{values_in}
+use Rattle.bd_wide_dump.specs.inside.Begins.{HasElements, HasValue, IsElement, AppendsBy, AppendsText}
 
 -- With the texts that remain, what is written is a whole text.
 abbrev pub Goes : JsonFormat → Tree → (List (List ℕ) → Type 0) → Bool → ℕ → List ℕ → List ℕ → Type 0

@@ -11,7 +11,8 @@ use Rattle.bd_bson_view.specs.Spelling.{type_at, framed, scoped, IsName, IsValue
 use Rattle.bd_bson_view.specs.Spelling.{NumberKind, as_double, as_int32, as_int64, as_decimal128, number_type, number_size}
 use Rattle.bd_bson_view.specs.Unique.{scalars, no_holder, cancel, names, bodies, same_code}
 use Rattle.bd_wide_dump.specs.Raw.{raw, byte_of}
-use Rattle.bd_wide_dump.specs.inside.Begins.{values_in, is_whole, IsTyped, a_number, a_scalar, a_document, an_array, a_code}
+use Rattle.bd_wide_dump.specs.Values.{values_in}
+use Rattle.bd_wide_dump.specs.inside.Begins.{is_whole, IsTyped, a_number, a_scalar, a_document, an_array, a_code}
 use Rattle.bd_wide_dump.proofs.ElementLemmas.{byte_type, some_byte, Written, written_by, regroup}
 use Rattle.bd_wide_dump.proofs.ValueLemmas.{same_number, number_no_holder}
 use Rattle.bd_wide_dump.proofs.PlainLemmas.{same_length}

@@ -18,7 +18,8 @@ use Rattle.std.specs.Prelude.{codes}
 use Rattle.bd_wide_dump.specs.Raw.{raw, byte_of}
 use Rattle.bd_wide_dump.specs.declared.format.JsonFormat.TheVariants.{Canonical}
 use Rattle.bd_wide_dump.specs.WideText.{AreBytes, IsNumberText, IsRawText, IsScalarText, IsTextOf, AreTexts, AreMembers, IsLineOf}
-use Rattle.bd_wide_dump.specs.inside.Begins.{values_in, is_whole, IsTyped, a_number, a_scalar, a_document, an_array, a_code}
+use Rattle.bd_wide_dump.specs.Values.{values_in}
+use Rattle.bd_wide_dump.specs.inside.Begins.{is_whole, IsTyped, a_number, a_scalar, a_document, an_array, a_code}
 use Rattle.bd_wide_dump.proofs.ElementLemmas.{byte_type, some_byte, Written, written_by, regroup}
 use Rattle.bd_wide_dump.proofs.ValueLemmas.{number_no_holder}
 use Rattle.bd_wide_dump.proofs.RawLemmas.{raw_same}

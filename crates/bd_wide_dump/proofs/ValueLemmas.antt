@@ -24,7 +24,8 @@ use Rattle.bd_wide_text.specs.{Decimal128.decimal128_text}
 use Rattle.bd_wide_dump.specs.Raw.{raw}
 use Rattle.bd_wide_dump.specs.declared.format.JsonFormat.{JsonFormat}
 use Rattle.bd_wide_dump.specs.WideText.{AreBytes, IsDoubleIn, IsKindText, IsNumberText, IsRawText, IsTextOf, is_bare}
-use Rattle.bd_wide_dump.specs.inside.Begins.{values_in, HasElements, IsNumberOf, IsTyped, a_number, a_scalar, a_document, an_array, a_code, HasValue, AppendsBy, AppendsText}
+use Rattle.bd_wide_dump.specs.Values.{values_in}
+use Rattle.bd_wide_dump.specs.inside.Begins.{HasElements, IsNumberOf, IsTyped, a_number, a_scalar, a_document, an_array, a_code, HasValue, AppendsBy, AppendsText}
 
 -- ---- numbers
 

@@ -1,4 +1,5 @@
 pub mod Raw
 pub mod RelaxedDate
+pub mod Values
 pub mod WideText
 pub mod inside

@@ -8,7 +8,8 @@ ghost use Rattle.bd_bson_view.specs.declared.raw_parts.ElementType.TheVariants.{
 ghost use Rattle.bd_bson_check.specs.FirstFault.{fault_under};
 ghost use Rattle.bd_bson_check.specs.declared.profile.Profile.TheVariants.{All};
 ghost use Rattle.bd_wide_dump.specs.WideText.{IsLineOf, IsTextOfBytes};
-ghost use Rattle.bd_wide_dump.specs.inside.Begins.{AppendsText, HasElements, HasValue, values_in};
+ghost use Rattle.bd_wide_dump.specs.Values.{values_in};
+ghost use Rattle.bd_wide_dump.specs.inside.Begins.{AppendsText, HasElements, HasValue};
 
 use crate::element::element_at;
 use crate::format::JsonFormat;

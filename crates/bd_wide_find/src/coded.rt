@@ -140,7 +140,7 @@ pub fn coded_copy(alloc: Global, dump: &WideDump, table: &Table) -> Result<Dump,
 {
     table.codes_fit();
     let mut bytes = Vec::new(alloc);
-    dump.write_copy(alloc, table, &mut bytes)?;
+    dump.write_copy(table, &mut bytes)?;
     match read_dump(alloc, bytes) {
         Ok(copy) => Ok(copy),
         // A copy has no fault: memory ran out.

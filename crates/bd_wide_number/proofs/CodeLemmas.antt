@@ -1,18 +1,18 @@
 -- The codes of numbers, by the values of the numbers.
-use Rattle.std.proofs.Common.{◌≡◌, ◌≢◌, ◌⊎◌, ℕ, zero, suc, ◌+◌, ◌-◌, ◌*◌, ◌/◌, ◌%◌, ◌^◌, ◌<◌, ◌≤◌, Bool, true, false, ℤ, pos, neg_ℤ, Option, None, Some, refl, sym, ap, ◌∙◌, arith, inl, inr, ⊎_elim, pow-add, pow_pos, mul-one, zero-mul, mul-pos, mul-div_cancel, le-mul_of_pos_right, option_map, w64, SFits, to_z, of_z}
+use Rattle.std.proofs.Common.{◌≡◌, ◌≢◌, ◌⊎◌, ℕ, zero, suc, ◌+◌, ◌-◌, ◌*◌, ◌/◌, ◌%◌, ◌^◌, ◌<◌, ◌≤◌, Bool, true, false, ℤ, pos, neg_ℤ, Option, None, Some, refl, sym, ap, ◌∙◌, arith, inl, inr, ⊎_elim, pow-add, pow_pos, zero-mul, mul-pos, mul-div_cancel, option_map, w64, SFits, to_z, of_z}
 use Rattle.std.specs.Prelude.{unsigned_abs}
-use Rattle.std.proofs.Math.Nat.{one-le-pow, eq_of_mul-eq-mul_right, mul-mod_left, mul_comm}
+use Rattle.std.proofs.Math.Nat.{one-le-pow, eq_of_mul-eq-mul_right, mul-mod_left}
 use Rattle.std.proofs.lemmas.Nat.{mul-pow, div-add-mod'}
 use Rattle.std.proofs.lemmas.Int.{to_z-of_z, fits_signed_from_abs}
 use Rattle.std.proofs.lemmas.Bool.{cases_lt, cases_eq}
-use borrow.Author.Tests.{lt-ltb, le-ltb, le-leb, lt-leb, eq-eqb, ne_eqb}
-use Rattle.bd_wide_number.specs.Value.{nan, infinite, finite, one, least_double, magnitude, infinite_bits, has_sign, signed, double_value, decimal128_value}
+use borrow.Author.Tests.{lt-ltb, le-ltb, eq-eqb, ne_eqb}
+use Rattle.bd_wide_number.specs.Value.{nan, infinite, finite, least_double, magnitude, infinite_bits, has_sign, signed, double_value, decimal128_value}
 use Rattle.bd_wide_number.specs.Decimal128.{five_bits, coefficient_of, biased_exponent}
-use Rattle.bd_wide_number.specs.Code.{bits_of, double_code, double_part, scaled_code, whole_part, within_64}
+use Rattle.bd_wide_number.specs.Code.{bits_of, double_code, double_part}
 use Rattle.bd_wide_number.specs.declared.odd.Odd.{Odd}
 use Rattle.bd_wide_number.specs.inside.Odd.{fives, IsOddOf, IsWide}
-use Rattle.bd_wide_number.proofs.OddLemmas.{products, fives_pos, odd_form, odd_least}
-use Rattle.bd_wide_number.proofs.ValueLemmas.{by_parts, doubled_magnitude, magnitude_form, magnitude_least, small_magnitude}
+use Rattle.bd_wide_number.proofs.OddLemmas.{products, fives_pos, odd_least}
+use Rattle.bd_wide_number.proofs.ValueLemmas.{doubled_magnitude, magnitude_form, magnitude_least, small_magnitude}
 
 -- ---- options
 
@@ -101,10 +101,6 @@ pub least_pos : 0 < least_double
 unfolding least_double
 least_pos = mul-pos (pow_pos 5102) (one-le-pow 6176 5 (omega arith))
 
-pub one_pos : 0 < one
-unfolding one
-one_pos = one-le-pow 6176 10 (omega arith)
-
 -- ---- a number of units as a double
 
 pub double_is : (negative : Bool) (size b : ℕ) → b < infinite_bits → magnitude b * least_double ≡ size → double_part negative size ≡ Some (signed negative b)
@@ -132,58 +128,14 @@ pub double_none : (negative : Bool) (size : ℕ) → ((b : ℕ) → b < infinite
 double_none negative size h = none_from (double_part negative size)
     (λ (c : ℤ) (e : double_part negative size ≡ Some c). let r = double_gives negative size c e in h r.0 r.1 r.2)
 
--- ---- a number of units as a whole number
-
-within_gives : (negative : Bool) (n : ℕ) (c : ℤ) → within_64 negative n ≡ Some c → (n ≤ 2 ^ 63) × (c ≡ signed negative n)
-within_gives true n c h = ⊎_elim
-    (λ (l : 2 ^ 63 < n). absurd (let f : None ≡ Some c = rw (lt-leb n (2 ^ 63) l) at h in let no : ⊥ = cc in no))
-    (λ (l : n ≤ 2 ^ 63). let f : Some (signed true n) ≡ Some c = rw (le-leb n (2 ^ 63) l) at h in (l, cc))
-    (cases_lt (2 ^ 63) n)
-within_gives false n c h = ⊎_elim
-    (λ (l : 2 ^ 63 - 1 < n). absurd (let f : None ≡ Some c = rw (lt-leb n (2 ^ 63 - 1) l) at h in let no : ⊥ = cc in no))
-    (λ (l : n ≤ 2 ^ 63 - 1). let f : Some (signed false n) ≡ Some c = rw (le-leb n (2 ^ 63 - 1) l) at h in (omega arith, cc))
-    (cases_lt (2 ^ 63 - 1) n)
-
-pub whole_is : (negative : Bool) (size w : ℕ) → w * one ≡ size → whole_part negative size ≡ within_64 negative w
-unfolding whole_part
-whole_is negative size w is =
-    rw (eq-eqb (size % one) 0 (no_rest w one size one_pos is), quotient w one size one_pos is) refl
-
--- the whole number of a size is its count of ones, at most 2^63, with the sign
-pub whole_gives : (negative : Bool) (size : ℕ) (c : ℤ) → whole_part negative size ≡ Some c
-    → (w : ℕ) × (w * one ≡ size) × (w ≤ 2 ^ 63) × (c ≡ signed negative w)
-unfolding whole_part
-whole_gives negative size c h = by_rest (cases_eq (size % one) 0) where
-  by_rest : (size % one ≡ 0) ⊎ (size % one ≡ 0 → ⊥) → (w : ℕ) × (w * one ≡ size) × (w ≤ 2 ^ 63) × (c ≡ signed negative w)
-  by_rest (inl none) =
-      let found : within_64 negative (size / one) ≡ Some c = rw (eq-eqb (size % one) 0 none) at h in
-      let r = within_gives negative (size / one) c found in
-      (size / one, multiple size one none, r.0, r.1)
-  by_rest (inr some) = absurd (let f : None ≡ Some c = rw (ne_eqb (size % one) 0 some) at h in let no : ⊥ = cc in no)
-
-pub whole_none : (negative : Bool) (size : ℕ) → ((w : ℕ) → w ≤ 2 ^ 63 → w * one ≡ size → ⊥) → whole_part negative size ≡ None
-whole_none negative size h = none_from (whole_part negative size)
-    (λ (c : ℤ) (e : whole_part negative size ≡ Some c). let r = whole_gives negative size c e in h r.0 r.2 r.1)
-
 -- ---- the units
 
 pub least_is : least_double ≡ 2 ^ 5102 * fives
 unfolding least_double fives
 least_is = refl
 
-pub one_is : one ≡ 2 ^ 6176 * fives
-unfolding one fives
-one_is = refl
-
-fives_is : fives ≡ 5 ^ 6176
-unfolding fives
-fives_is = refl
-
 tens : (x n : ℕ) → x * 10 ^ n ≡ x * 2 ^ n * 5 ^ n
 tens x n = let e : 10 ^ n ≡ 2 ^ n * 5 ^ n = mul-pow 2 5 n in ap (λ (z : ℕ). x * z) e ∙ (let f : x * (2 ^ n * 5 ^ n) ≡ x * 2 ^ n * 5 ^ n = simp products in f)
-
-more_tens : (a t k : ℕ) → a * 10 ^ t * 10 ^ k ≡ a * 2 ^ (t + k) * 5 ^ (t + k)
-more_tens a t k = let e : a * 10 ^ t * 10 ^ k ≡ a * 10 ^ (t + k) = simp (pow-add, products) in e ∙ tens a (t + k)
 
 module _ (s : ℕ) (unit : least_double ≡ 2 ^ s * fives) where
   as_form : (b size : ℕ) → magnitude b * least_double ≡ size → (m : ℕ) × (j : ℕ) × (m < 2 ^ 53) × ((m * 2 ^ j) * fives ≡ size)
@@ -196,17 +148,6 @@ module _ (s : ℕ) (unit : least_double ≡ 2 ^ s * fives) where
   found_units b odd d is =
       let turned : (odd * 2 ^ d) * (2 ^ s * fives) ≡ (odd * 2 ^ (s + d)) * fives = simp (pow-add, products) in
       ap (λ (z : ℕ). z * least_double) is ∙ ap (λ (z : ℕ). (odd * 2 ^ d) * z) unit ∙ turned
-
-  scaled_units : (t m j k x y : ℕ) → fives ≡ 5 ^ t → s + j + k ≡ x → t + k ≡ y → (m * 2 ^ j) * least_double * 10 ^ k ≡ m * 2 ^ x * 5 ^ y
-  scaled_units t m j k x y power twos more =
-      let turned : (m * 2 ^ j) * (2 ^ s * 5 ^ t) * 2 ^ k * 5 ^ k ≡ m * 2 ^ (s + j + k) * 5 ^ (t + k) = simp (pow-add, products) in
-      tens ((m * 2 ^ j) * least_double) k
-      ∙ ap (λ (z : ℕ). (m * 2 ^ j) * z * 2 ^ k * 5 ^ k) (unit ∙ ap (λ (z : ℕ). 2 ^ s * z) power)
-      ∙ turned ∙ ap (λ (z : ℕ). m * 2 ^ z * 5 ^ (t + k)) twos ∙ ap (λ (z : ℕ). m * 2 ^ x * 5 ^ z) more
-
-module _ (t : ℕ) (unit : one ≡ 2 ^ t * fives) where
-  whole_units : (w size : ℕ) → w * one ≡ size → (w * 2 ^ t) * fives ≡ size
-  whole_units w size is = let turned : (w * 2 ^ t) * fives ≡ w * (2 ^ t * fives) = simp products in turned ∙ ap (λ (z : ℕ). w * z) (sym unit) ∙ is
 
 -- ---- a number times a power of ten, as a double
 
@@ -233,38 +174,6 @@ module _ (negative : Bool) (number e n : ℕ) (o : Odd) (units : n * fives ≡ n
   double_found b d few sum is = double_is negative (number * 10 ^ e) b few
       (found_units 5102 least_is b o.odd d is ∙ ap (λ (z : ℕ). (o.odd * 2 ^ z) * fives) sum ∙ ap (λ (z : ℕ). z * fives) odd.is ∙ units ∙ sym (tens number e))
 
--- ---- a number of units as a whole number, by its odd part
-
--- the whole number of 0 is 0, whatever its sign
-pub zero_whole : (negative : Bool) (size : ℕ) → size ≡ 0 → Some (pos 0) ≡ whole_part negative size
-zero_whole true size e = sym (whole_is true size 0 (zero-mul one ∙ sym e))
-zero_whole false size e = sym (whole_is false size 0 (zero-mul one ∙ sym e))
-
-pub whole_wide : (negative : Bool) (size : ℕ) → ((n : ℕ) → n * fives ≡ size → IsWide n) → whole_part negative size ≡ None
-whole_wide negative size wide = whole_none negative size (λ w few is.
-    wide (w * 2 ^ 6176) (whole_units 6176 one_is w size is) w 6176 (omega arith) refl)
-
-far : (odd d w twos : ℕ) → odd % 2 ≡ 1 → w ≤ 2 ^ 63 → 6176 + d ≡ twos → w ≡ odd * 2 ^ d → (twos < 6176) ⊎ (6239 < twos) → ⊥
-far odd d w twos is few sum form (inl low) = omega arith
-far odd d w twos is few sum form (inr high) =
-    let back : 64 + (d - 64) ≡ d = omega arith in
-    let power : 2 ^ d ≡ 2 ^ 64 * 2 ^ (d - 64) = ap (λ (z : ℕ). 2 ^ z) (sym back) ∙ pow-add 2 64 (d - 64) in
-    let some : 0 < odd = omega arith in
-    omega (arith, le-mul_of_pos_right (2 ^ d) some, pow_pos (d - 64), mul_comm odd (2 ^ d))
-
-module _ (negative : Bool) (size n start : ℕ) (o : Odd) (units : n * fives ≡ size) (odd : IsOddOf n start o) where
-  pub whole_far : (o.twos < 6176) ⊎ (6239 < o.twos) → whole_part negative size ≡ None
-  whole_far apart = whole_none negative size (λ w few is.
-      let same : w * 2 ^ 6176 ≡ n = eq_of_mul-eq-mul_right fives fives_pos _ _ (whole_units 6176 one_is w size is ∙ sym units) in
-      let r = odd_form o.odd o.twos w 6176 odd.odd (same ∙ sym odd.is) in
-      far o.odd r.0 w o.twos odd.odd few r.1 r.2 apart)
-
-  pub whole_found : (shift : ℕ) → 6176 + shift ≡ o.twos → whole_part negative size ≡ within_64 negative (o.odd * 2 ^ shift)
-  whole_found shift sum = whole_is negative size (o.odd * 2 ^ shift)
-      (let w = o.odd * 2 ^ shift in
-      let turned : w * (2 ^ 6176 * fives) ≡ (o.odd * (2 ^ 6176 * 2 ^ shift)) * fives = simp products in
-      ap (λ (z : ℕ). w * z) one_is ∙ turned ∙ ap (λ (z : ℕ). (o.odd * z) * fives) (sym (pow-add 2 6176 shift) ∙ ap (λ (z : ℕ). 2 ^ z) sum) ∙ ap (λ (z : ℕ). z * fives) odd.is ∙ units)
-
 -- ---- signs
 
 signed_size : (negative : Bool) (n : ℕ) → unsigned_abs (signed negative n) ≡ n
@@ -284,14 +193,17 @@ passed negative n z few e =
 -- ---- doubles
 
 module _ (bits : ℕ) where
+  -- bits above those of an infinity are a NaN
   pub nan_is : infinite_bits < bits % 2 ^ 63 → double_value bits ≡ nan
   unfolding double_value
   nan_is h = rw (lt-ltb infinite_bits (bits % 2 ^ 63) h) refl
 
+  -- these bits, with a sign, are an infinity
   pub infinite_is : bits % 2 ^ 63 ≡ infinite_bits → double_value bits ≡ infinite (has_sign bits)
   unfolding double_value
   infinite_is h = rw (le-ltb infinite_bits (bits % 2 ^ 63) (omega arith), eq-eqb (bits % 2 ^ 63) infinite_bits h) refl
 
+  -- bits below those of an infinity are a finite double
   pub finite_is : bits % 2 ^ 63 < infinite_bits → double_value bits ≡ finite (has_sign bits) (magnitude (bits % 2 ^ 63) * least_double)
   unfolding double_value
   finite_is h = rw (le-ltb infinite_bits (bits % 2 ^ 63) (omega arith), ne_eqb (bits % 2 ^ 63) infinite_bits (omega arith)) refl
@@ -310,70 +222,21 @@ module _ (bits : ℕ) where
       ap double_code (infinite_is same) ∙ ap (λ (z : ℕ). Some (signed (has_sign bits) z)) (sym same))
       (cases_lt (bits % 2 ^ 63) infinite_bits)
 
-  module _ (k : ℕ) where
-    pub scaled_none : infinite_bits ≤ bits % 2 ^ 63 → scaled_code k (double_value bits) ≡ None
-    unfolding scaled_code
-    scaled_none h = ⊎_elim
-        (λ (l : infinite_bits < bits % 2 ^ 63). ap (scaled_code k) (nan_is l))
-        (λ (l : bits % 2 ^ 63 ≤ infinite_bits). ap (scaled_code k) (infinite_is (omega arith)))
-        (cases_lt infinite_bits (bits % 2 ^ 63))
-
-    pub scaled_finite : (m j twos : ℕ) → bits % 2 ^ 63 < infinite_bits → magnitude (bits % 2 ^ 63) ≡ m * 2 ^ j → 5102 + j + k ≡ twos
-        → scaled_code k (double_value bits) ≡ whole_part (has_sign bits) (m * 2 ^ twos * 5 ^ (6176 + k))
-    unfolding scaled_code
-    scaled_finite m j twos l is sum = ap (scaled_code k) (finite_is l)
-        ∙ ap (λ (z : ℕ). whole_part (has_sign bits) (z * least_double * 10 ^ k)) is
-        ∙ ap (whole_part (has_sign bits)) (scaled_units 5102 least_is 6176 m j k twos (6176 + k) fives_is sum refl)
-
-    pub scaled_low : bits % 2 ^ 63 < infinite_bits → bits % 2 ^ 63 / 2 ^ 52 ≡ 0
-        → scaled_code k (double_value bits) ≡ whole_part (has_sign bits) (bits % 2 ^ 63 % 2 ^ 52 * 2 ^ (5102 + k) * 5 ^ (6176 + k))
-    scaled_low l none = scaled_finite (bits % 2 ^ 63 % 2 ^ 52) 0 (5102 + k) l
-        (small_magnitude (bits % 2 ^ 63) (omega arith) ∙ (let f : bits % 2 ^ 63 ≡ bits % 2 ^ 63 % 2 ^ 52 = omega arith in f) ∙ sym (mul-one _)) (omega arith)
-
-    pub scaled_high : bits % 2 ^ 63 < infinite_bits → bits % 2 ^ 63 / 2 ^ 52 ≢ 0
-        → scaled_code k (double_value bits) ≡ whole_part (has_sign bits) ((2 ^ 52 + bits % 2 ^ 63 % 2 ^ 52) * 2 ^ (5101 + bits % 2 ^ 63 / 2 ^ 52 + k) * 5 ^ (6176 + k))
-    scaled_high l some =
-        let size = bits % 2 ^ 63 in
-        let e = size / 2 ^ 52 - 1 in
-        let back : suc e ≡ size / 2 ^ 52 = omega arith in
-        let same : suc e * 2 ^ 52 + size % 2 ^ 52 ≡ size = omega arith in
-        scaled_finite (2 ^ 52 + size % 2 ^ 52) e (5101 + size / 2 ^ 52 + k) l
-        (sym (ap magnitude same) ∙ by_parts (suc e) (size % 2 ^ 52) (omega arith)) (omega arith)
-
 -- ---- decimals
 
 module _ (low high : ℕ) where
+  -- five bits that are 31 are a NaN
   pub decimal_nan : five_bits high ≡ 31 → decimal128_value low high ≡ nan
   unfolding decimal128_value
   decimal_nan h = rw (eq-eqb (five_bits high) 31 h) refl
 
+  -- five bits that are 30 are an infinity
   pub decimal_infinite : five_bits high ≡ 30 → decimal128_value low high ≡ infinite (has_sign high)
   unfolding decimal128_value
   decimal_infinite h = rw (ne_eqb (five_bits high) 31 (omega arith), eq-eqb (five_bits high) 30 h) refl
 
+  -- all others are a finite number: its coefficient times its power of ten
   pub decimal_finite : five_bits high ≢ 31 → five_bits high ≢ 30
       → decimal128_value low high ≡ finite (has_sign high) (coefficient_of low high * 10 ^ biased_exponent high)
   unfolding decimal128_value
   decimal_finite g h = rw (ne_eqb (five_bits high) 31 g, ne_eqb (five_bits high) 30 h) refl
-
-  pub decimal_none : (k : ℕ) → 30 ≤ five_bits high → scaled_code k (decimal128_value low high) ≡ None
-  unfolding scaled_code
-  decimal_none k h = ⊎_elim
-      (λ (l : 30 < five_bits high). ap (scaled_code k) (decimal_nan (omega arith)))
-      (λ (l : five_bits high ≤ 30). ap (scaled_code k) (decimal_infinite (omega arith)))
-      (cases_lt 30 (five_bits high))
-
-  pub decimal_scaled : (k : ℕ) → five_bits high < 30 → scaled_code k (decimal128_value low high)
-      ≡ whole_part (has_sign high) (coefficient_of low high * 2 ^ (biased_exponent high + k) * 5 ^ (biased_exponent high + k))
-  unfolding scaled_code
-  decimal_scaled k h = ap (scaled_code k) (decimal_finite (omega arith) (omega arith))
-      ∙ ap (whole_part (has_sign high)) (more_tens (coefficient_of low high) (biased_exponent high) k)
-
--- ---- whole numbers
-
-one_tens : one ≡ 10 ^ 6176
-unfolding one
-one_tens = refl
-
-pub whole_scaled : (a k : ℕ) → a * one * 10 ^ k ≡ a * 2 ^ (6176 + k) * 5 ^ (6176 + k)
-whole_scaled a k = ap (λ (z : ℕ). a * z * 10 ^ k) one_tens ∙ more_tens a 6176 k

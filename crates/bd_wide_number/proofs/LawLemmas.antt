@@ -1,12 +1,12 @@
 -- Codes are in the order of the numbers.
-use Rattle.std.proofs.Common.{◌≡◌, ◌⊎◌, ◌↔◌, ℕ, zero, suc, ◌+◌, ◌*◌, ◌%◌, ◌^◌, ◌<◌, ◌≤◌, Bool, true, false, ℤ, pos, negsuc, neg_ℤ, ◌*ℤ◌, ◌<ℤ◌, Option, None, Some, refl, sym, ap, ◌∙◌, subst, arith, inl, inr, ⊎_elim, zero-mul}
-use Rattle.std.proofs.Math.Nat.{one-le-pow, mul-lt-mul_of_pos_right, lt_of_mul-lt-mul_right, eq_of_mul-eq-mul_right}
+use Rattle.std.proofs.Common.{◌≡◌, ◌⊎◌, ◌↔◌, ℕ, ◌+◌, ◌*◌, ◌%◌, ◌^◌, ◌<◌, ◌≤◌, Bool, true, false, ℤ, pos, neg_ℤ, ◌<ℤ◌, Option, Some, refl, sym, ap, ◌∙◌, subst, arith, inl, inr, ⊎_elim, zero-mul}
+use Rattle.std.proofs.Math.Nat.{mul-lt-mul_of_pos_right}
 use Rattle.std.proofs.lemmas.Int.{ints}
 use Rattle.std.proofs.lemmas.Bool.{cases_lt, cases_order}
 use borrow.Author.Tests.{le-leb, lt-leb}
-use Rattle.bd_wide_number.specs.Value.{Value, nan, infinite, finite, one, least_double, magnitude, infinite_bits, has_sign, signed, double_value, IsLess, IsEqual}
-use Rattle.bd_wide_number.specs.Code.{double_code, double_part, scaled_code, whole_part, number_code, code_value}
-use Rattle.bd_wide_number.proofs.CodeLemmas.{bits_code, double_gives, infinite_is, finite_is, least_pos, nan_code, nan_is, one_pos, whole_gives, zero_double, zero_whole}
+use Rattle.bd_wide_number.specs.Value.{Value, nan, infinite, finite, least_double, magnitude, infinite_bits, has_sign, signed, double_value, IsLess, IsEqual}
+use Rattle.bd_wide_number.specs.Code.{double_code, double_part}
+use Rattle.bd_wide_number.proofs.CodeLemmas.{double_gives, infinite_is, finite_is, least_pos, nan_is, zero_double}
 use Rattle.bd_wide_number.proofs.ValueLemmas.{none_is, rises}
 
 -- ---- sizes and codes without their signs
@@ -75,30 +75,6 @@ doubles_alike b n d m first second = record {
   second = doubles_order d m 0 0 second nothing;
 }
 
-module _ (k b n d m : ℕ) (first : b * one ≡ n * 10 ^ k) (second : d * one ≡ m * 10 ^ k) where
-  power : 0 < 10 ^ k
-  power = one-le-pow k 10 (omega arith)
-
-  less : (x y z w : ℕ) → x * one ≡ z * 10 ^ k → y * one ≡ w * 10 ^ k → x < y → z < w
-  less x y z w e f l =
-      let more : x * one < y * one = mul-lt-mul_of_pos_right l one_pos in
-      let scaled : z * 10 ^ k < w * 10 ^ k = omega arith in
-      lt_of_mul-lt-mul_right (10 ^ k) scaled
-
-  scaled_order : InOneOrder b n d m
-  scaled_order = in_one_order b n d m (λ l. less b d n m first second l) (λ l. less d b m n second first l)
-      (λ e. eq_of_mul-eq-mul_right (10 ^ k) power n m (sym first ∙ ap (λ (z : ℕ). z * one) e ∙ second))
-
-nothing_scaled : (k : ℕ) → 0 * one ≡ 0 * 10 ^ k
-nothing_scaled k = zero-mul one ∙ sym (zero-mul (10 ^ k))
-
-scaled_alike : (k b n d m : ℕ) → b * one ≡ n * 10 ^ k → d * one ≡ m * 10 ^ k → AreAlike b n d m
-scaled_alike k b n d m first second = record {
-  both = scaled_order k b n d m first second;
-  first = scaled_order k b n 0 0 first (nothing_scaled k);
-  second = scaled_order k d m 0 0 second (nothing_scaled k);
-}
-
 -- ---- codes in order
 
 -- how two numbers and their codes compare
@@ -134,16 +110,6 @@ finite_order s t n m c d h g =
     (subst (λ (y : ℤ). InOrder (finite s n) (finite t m) (signed s p.0) y) (sym q.3)
     (signed_less s t p.0 n q.0 m h, signed_equal s t p.0 n q.0 m h))
 
-scaled_finite_order : (k : ℕ) (s t : Bool) (n m : ℕ) (c d : ℤ) → whole_part s (n * 10 ^ k) ≡ Some c → whole_part t (m * 10 ^ k) ≡ Some d
-    → InOrder (finite s n) (finite t m) c d
-scaled_finite_order k s t n m c d h g =
-    let p = whole_gives s (n * 10 ^ k) c h in
-    let q = whole_gives t (m * 10 ^ k) d g in
-    let h = scaled_alike k p.0 n q.0 m p.1 q.1 in
-    subst (λ (x : ℤ). InOrder (finite s n) (finite t m) x d) (sym p.3)
-    (subst (λ (y : ℤ). InOrder (finite s n) (finite t m) (signed s p.0) y) (sym q.3)
-    (signed_less s t p.0 n q.0 m h, signed_equal s t p.0 n q.0 m h))
-
 double_order : (a b : Value) (c d : ℤ) → double_code a ≡ Some c → double_code b ≡ Some d → InOrder a b c d
 unfolding double_code
 double_order nan nan c d h g = level 0 0 c d refl (sym (some_same _ c h) ∙ some_same _ d g)
@@ -163,24 +129,13 @@ double_order (finite s n) (infinite true) c d h g = above 2 1 c d (omega arith) 
 double_order (finite s n) (infinite false) c d h g = below 2 3 c d (omega arith) (omega (arith, ints, part_between s n c h, some_same _ d g))
 double_order (finite s n) (finite t m) c d h g = finite_order s t n m c d h g
 
-scaled_order_of : (k : ℕ) (a b : Value) (c d : ℤ) → scaled_code k a ≡ Some c → scaled_code k b ≡ Some d → InOrder a b c d
-unfolding scaled_code
-scaled_order_of k nan b c d h g = absurd (let no : ⊥ = cc in no)
-scaled_order_of k (infinite s) b c d h g = absurd (let no : ⊥ = cc in no)
-scaled_order_of k (finite s n) nan c d h g = absurd (let no : ⊥ = cc in no)
-scaled_order_of k (finite s n) (infinite t) c d h g = absurd (let no : ⊥ = cc in no)
-scaled_order_of k (finite s n) (finite t m) c d h g = scaled_finite_order k s t n m c d h g
+-- of two numbers with codes, the less has the less code
+pub codes_rise_less : (a b : Value) (c d : ℤ) → double_code a ≡ Some c → double_code b ≡ Some d → (c <ℤ d) ↔ IsLess a b
+codes_rise_less a b c d h g = (double_order a b c d h g).0
 
-in_order : (k : Option ℕ) (a b : Value) (c d : ℤ) → number_code k a ≡ Some c → number_code k b ≡ Some d → InOrder a b c d
-unfolding number_code
-in_order None a b c d h g = double_order a b c d h g
-in_order (Some k) a b c d h g = scaled_order_of k a b c d h g
-
-pub codes_rise_less : (k : Option ℕ) (a b : Value) (c d : ℤ) → number_code k a ≡ Some c → number_code k b ≡ Some d → (c <ℤ d) ↔ IsLess a b
-codes_rise_less k a b c d h g = (in_order k a b c d h g).0
-
-pub codes_rise_equal : (k : Option ℕ) (a b : Value) (c d : ℤ) → number_code k a ≡ Some c → number_code k b ≡ Some d → (c ≡ d) ↔ IsEqual a b
-codes_rise_equal k a b c d h g = (in_order k a b c d h g).1
+-- two numbers with codes are equal exactly if their codes are
+pub codes_rise_equal : (a b : Value) (c d : ℤ) → double_code a ≡ Some c → double_code b ≡ Some d → (c ≡ d) ↔ IsEqual a b
+codes_rise_equal a b c d h g = (double_order a b c d h g).1
 
 -- ---- equal numbers
 
@@ -199,56 +154,26 @@ one_part f zeros false true n m e =
 double_zeros : (s t : Bool) → double_part s 0 ≡ double_part t 0
 double_zeros s t = sym (zero_double s 0 refl) ∙ zero_double t 0 refl
 
-whole_zeros : (k : ℕ) (s t : Bool) → whole_part s (0 * 10 ^ k) ≡ whole_part t (0 * 10 ^ k)
-whole_zeros k s t = sym (zero_whole s (0 * 10 ^ k) (zero-mul (10 ^ k))) ∙ zero_whole t (0 * 10 ^ k) (zero-mul (10 ^ k))
-
-one_double : (a b : Value) → IsEqual a b → double_code a ≡ double_code b
+pub one_code : (a b : Value) → IsEqual a b → double_code a ≡ double_code b
 unfolding double_code
-one_double nan nan e = refl
-one_double nan (infinite true) e = absurd (omega arith)
-one_double nan (infinite false) e = absurd (omega arith)
-one_double nan (finite t m) e = absurd (omega arith)
-one_double (infinite true) nan e = absurd (omega arith)
-one_double (infinite true) (infinite true) e = refl
-one_double (infinite true) (infinite false) e = absurd (omega arith)
-one_double (infinite true) (finite t m) e = absurd (omega arith)
-one_double (infinite false) nan e = absurd (omega arith)
-one_double (infinite false) (infinite true) e = absurd (omega arith)
-one_double (infinite false) (infinite false) e = refl
-one_double (infinite false) (finite t m) e = absurd (omega arith)
-one_double (finite s n) nan e = absurd (omega arith)
-one_double (finite s n) (infinite true) e = absurd (omega arith)
-one_double (finite s n) (infinite false) e = absurd (omega arith)
-one_double (finite s n) (finite t m) e = one_part double_part double_zeros s t n m e
-
-one_scaled : (k : ℕ) (a b : Value) → IsEqual a b → scaled_code k a ≡ scaled_code k b
-unfolding scaled_code
-one_scaled k nan nan e = refl
-one_scaled k nan (infinite t) e = refl
-one_scaled k nan (finite t m) e = absurd (omega arith)
-one_scaled k (infinite s) nan e = refl
-one_scaled k (infinite s) (infinite t) e = refl
-one_scaled k (infinite true) (finite t m) e = absurd (omega arith)
-one_scaled k (infinite false) (finite t m) e = absurd (omega arith)
-one_scaled k (finite s n) nan e = absurd (omega arith)
-one_scaled k (finite s n) (infinite true) e = absurd (omega arith)
-one_scaled k (finite s n) (infinite false) e = absurd (omega arith)
-one_scaled k (finite s n) (finite t m) e = one_part (λ x y. whole_part x (y * 10 ^ k)) (whole_zeros k) s t n m e
-
-pub one_code : (k : Option ℕ) (a b : Value) → IsEqual a b → number_code k a ≡ number_code k b
-unfolding number_code
-one_code None a b e = one_double a b e
-one_code (Some k) a b e = one_scaled k a b e
+one_code nan nan e = refl
+one_code nan (infinite true) e = absurd (omega arith)
+one_code nan (infinite false) e = absurd (omega arith)
+one_code nan (finite t m) e = absurd (omega arith)
+one_code (infinite true) nan e = absurd (omega arith)
+one_code (infinite true) (infinite true) e = refl
+one_code (infinite true) (infinite false) e = absurd (omega arith)
+one_code (infinite true) (finite t m) e = absurd (omega arith)
+one_code (infinite false) nan e = absurd (omega arith)
+one_code (infinite false) (infinite true) e = absurd (omega arith)
+one_code (infinite false) (infinite false) e = refl
+one_code (infinite false) (finite t m) e = absurd (omega arith)
+one_code (finite s n) nan e = absurd (omega arith)
+one_code (finite s n) (infinite true) e = absurd (omega arith)
+one_code (finite s n) (infinite false) e = absurd (omega arith)
+one_code (finite s n) (finite t m) e = one_part double_part double_zeros s t n m e
 
 -- ---- doubles
-
-pub double_bits : (bits : ℕ) → bits % 2 ^ 63 ≤ infinite_bits → number_code None (double_value bits) ≡ Some (signed (has_sign bits) (bits % 2 ^ 63))
-unfolding number_code
-double_bits bits h = bits_code bits h
-
-pub double_nan : (bits : ℕ) → infinite_bits < bits % 2 ^ 63 → number_code None (double_value bits) ≡ Some (neg_ℤ (pos (2 ^ 63)))
-unfolding number_code
-double_nan bits h = nan_code bits h
 
 -- the bits with a sign
 with_sign : Bool → ℕ → ℕ
@@ -289,60 +214,6 @@ has_double (finite s n) c h =
     ∙ ap (λ (x : ℕ). finite s (magnitude x * least_double)) p.1
     ∙ ap (finite s) g.2)
 
-pub equal_double : (a : Value) (c : ℤ) → number_code None a ≡ Some c → (bits : ℕ) × (bits < 2 ^ 64) × IsEqual a (double_value bits)
-unfolding number_code HasDouble
+pub equal_double : (a : Value) (c : ℤ) → double_code a ≡ Some c → (bits : ℕ) × (bits < 2 ^ 64) × IsEqual a (double_value bits)
+unfolding HasDouble
 equal_double a c h = has_double a c h
-
--- ---- the numbers of codes
-
-negative_times : (x y : ℕ) → neg_ℤ (pos x) *ℤ pos y ≡ neg_ℤ (pos (x * y))
-negative_times zero y = rw zero-mul refl
-negative_times (suc x) y = refl
-
-code_size : (s : Bool) (b : ℕ) → code_value (signed s b) *ℤ pos least_double ≡ signed s (magnitude b * least_double)
-code_size true zero = rw (none_is, zero-mul) refl
-code_size true (suc b) = negative_times (magnitude (suc b)) least_double
-code_size false b = refl
-
--- the number of a code by a double is the number that has this code
-pub code_means_number : (negative : Bool) (size : ℕ) (c : ℤ) → number_code None (finite negative size) ≡ Some c → code_value c *ℤ pos least_double ≡ signed negative size
-unfolding number_code double_code
-code_means_number s n c h =
-    let g = double_gives s n c h in
-    ap (λ (x : ℤ). code_value x *ℤ pos least_double) g.3 ∙ code_size s g.0 ∙ ap (signed s) g.2
-
-signed_times : (s : Bool) (x y : ℕ) → signed s x *ℤ pos y ≡ signed s (x * y)
-signed_times true x y = negative_times x y
-signed_times false x y = refl
-
-pub code_scaled : (k : ℕ) (negative : Bool) (size : ℕ) (c : ℤ) → number_code (Some k) (finite negative size) ≡ Some c
-    → c *ℤ pos one ≡ signed negative size *ℤ pos (10 ^ k)
-unfolding number_code scaled_code
-code_scaled k s n c h =
-    let g = whole_gives s (n * 10 ^ k) c h in
-    ap (λ (x : ℤ). x *ℤ pos one) g.3 ∙ signed_times s g.0 one ∙ ap (signed s) g.1 ∙ sym (signed_times s n (10 ^ k))
-
-pos_less : (m n : ℕ) → m < n → pos m <ℤ pos n
-pos_less m n l = omega (arith, ints)
-
-neg_less : (m n : ℕ) → m < n → neg_ℤ (pos n) <ℤ neg_ℤ (pos m)
-neg_less m n l = omega (arith, ints)
-
-across : (m n : ℕ) → 0 < m → neg_ℤ (pos m) <ℤ pos n
-across m n l = omega (arith, ints)
-
-from_pos : (m n : ℕ) → pos m <ℤ pos n → m < n
-from_pos m n l = omega (arith, ints)
-
-from_neg : (m n : ℕ) → negsuc m <ℤ negsuc n → n < m
-from_neg m n l = omega (arith, ints)
-
-never : (m n : ℕ) → pos m <ℤ negsuc n → ⊥
-never m n l = omega (arith, ints)
-
--- the greater of two codes by doubles has the greater number
-pub code_values_rise : (c d : ℤ) → c <ℤ d → code_value c <ℤ code_value d
-code_values_rise (pos m) (pos n) l = pos_less (magnitude m) (magnitude n) (rises m n (from_pos m n l))
-code_values_rise (pos m) (negsuc n) l = absurd (never m n l)
-code_values_rise (negsuc m) (pos n) l = across (magnitude (suc m)) (magnitude n) (omega (arith, rises 0 (suc m) (omega arith)))
-code_values_rise (negsuc m) (negsuc n) l = neg_less (magnitude (suc n)) (magnitude (suc m)) (rises (suc n) (suc m) (omega (arith, from_neg m n l)))

@@ -1,31 +1,12 @@
-//! The whole number that a number becomes.
+//! The code of a number: the bits of the double that equals it.
 
 ghost use Rattle.std.specs.Prelude.{◌≡◌, ◌<◌, ◌≤◌, ℕ, ◌+◌, ◌*◌, ◌^◌, Some};
-ghost use Rattle.bd_wide_number.specs.Code.{double_code as double_code_of, double_part as double_part_of, number_code, scaled_code as scaled_code_of, whole_code, whole_part as whole_part_of, within_64 as within_64_of};
+ghost use Rattle.bd_wide_number.specs.Code.{double_code, double_part as double_part_of};
 ghost use Rattle.bd_wide_number.specs.Value.{decimal128_value, double_value, infinite_bits, magnitude, signed as signed_of, value_of};
 
 use crate::decimal128::{biased_exponent, coefficient, five_bits};
 use crate::number::Number;
 use crate::odd::odd_part;
-
-/// The code of a number at a path, if any. With a power of ten it is the number times 10 ^ power, if that is a whole number
-/// of 64 bits. Otherwise it is the bits of the double that equals the number; for a negative one the bits without the sign,
-/// negated: so 0 and -0.0 have the code 0. NaN has the least code, -2 ^ 63.
-pub fn code_of(number: Number, power: Option<u32>) -> Option<i64>
-    ensures { result ≡ number_code power (value_of number) }
-{
-    match power {
-        None => double_code(number),
-        Some(k) => scaled_code(number, k),
-    }
-}
-
-/// The number itself, if it is a whole number of 64 bits.
-pub fn whole_of(number: Number) -> Option<i64>
-    ensures { result ≡ whole_code (value_of number) }
-{
-    scaled_code(number, 0)
-}
 
 /// The bits of an infinite double.
 const INFINITE: u64 = 0x7FF0_0000_0000_0000;
@@ -36,9 +17,10 @@ const SIGN: u64 = 0x8000_0000_0000_0000;
 /// 1 is 10 ^ 6176 units.
 const ONE: u64 = 6176;
 
-/// The code by the equal double.
-fn double_code(number: Number) -> Option<i64>
-    ensures { result ≡ double_code_of (value_of number) }
+/// The code of a number, if a double equals it: the bits of this double; for a negative one the bits without the sign, negated.
+/// So 0 and -0.0 have the code 0, and NaN has the least code, -2 ^ 63.
+pub fn code_of(number: Number) -> Option<i64>
+    ensures { result ≡ double_code (value_of number) }
 {
     match number {
         Number::Whole(z) => double_part(z < 0, z.unsigned_abs() as u128, ONE),
@@ -49,7 +31,7 @@ fn double_code(number: Number) -> Option<i64>
 
 /// The code of a decimal128 by the equal double, from the halves of its bits.
 fn decimal128_code(low: u64, high: u64) -> Option<i64>
-    ensures { result ≡ double_code_of (decimal128_value low high) }
+    ensures { result ≡ double_code (decimal128_value low high) }
 {
     let five = five_bits(high);
     let negative = high >= SIGN;
@@ -63,8 +45,8 @@ fn decimal128_code(low: u64, high: u64) -> Option<i64>
 }
 
 /// The code of a double, from its bits.
-fn code_of_double(bits: u64) -> i64
-    ensures { double_code_of (double_value bits) ≡ Some result }
+pub fn code_of_double(bits: u64) -> i64
+    ensures { double_code (double_value bits) ≡ Some result }
 {
     let size = bits % SIGN;
     if size > INFINITE {
@@ -111,78 +93,4 @@ fn double_bits(odd: u64, twos: u64) -> u64
     let shift = odd.leading_zeros() - 11;
     let exponent = twos - 5102 - shift as u64;
     exponent * 0x0010_0000_0000_0000 + (odd << shift)
-}
-
-/// The code with a power of ten.
-fn scaled_code(number: Number, power: u32) -> Option<i64>
-    ensures { result ≡ scaled_code_of power (value_of number) }
-{
-    let k = power as u64;
-    match number {
-        Number::Whole(z) => whole_part(z < 0, z.unsigned_abs() as u128, ONE + k, ONE + k),
-        Number::Double(bits) => scaled_double(bits, k),
-        Number::Decimal128(low, high) => {
-            if five_bits(high) >= 30 {
-                return None;
-            }
-            let exponent = biased_exponent(high) + k;
-            whole_part(high >= SIGN, coefficient(low, high), exponent, exponent)
-        }
-    }
-}
-
-/// The code of a double with a power of ten, from its bits.
-fn scaled_double(bits: u64, power: u64) -> Option<i64>
-    requires { power < 2 ^ 32 }
-    ensures { result ≡ scaled_code_of power (double_value bits) }
-{
-    let size = bits % SIGN;
-    if size >= INFINITE {
-        return None;
-    }
-    let exponent = size / 0x0010_0000_0000_0000;
-    let fraction = size % 0x0010_0000_0000_0000;
-    let negative = bits >= SIGN;
-    if exponent == 0 {
-        return whole_part(negative, fraction as u128, 5102 + power, ONE + power);
-    }
-    let number = 0x0010_0000_0000_0000 + fraction;
-    whole_part(
-        negative,
-        number as u128,
-        5101 + exponent + power,
-        ONE + power,
-    )
-}
-
-/// The most that an odd number of 64 bits is shifted.
-const MOST_SHIFT: u64 = 63;
-
-/// The whole number for a number times 2 ^ twos and 5 ^ fives units.
-fn whole_part(negative: bool, number: u128, twos: u64, fives: u64) -> Option<i64>
-    requires number { number < 2 ^ 113 }
-    requires twos { twos < 2 ^ 60 }
-    ensures { result ≡ whole_part_of negative (number * 2 ^ twos * 5 ^ fives) }
-{
-    if number == 0 {
-        return Some(0);
-    }
-    let odd = odd_part(number, twos, fives)?;
-    if odd.twos < ONE || odd.twos - ONE > MOST_SHIFT {
-        return None;
-    }
-    within_64(negative, (odd.odd as u128) << (odd.twos - ONE))
-}
-
-/// The number with its sign, if it is within 64 bits.
-fn within_64(negative: bool, n: u128) -> Option<i64>
-    ensures { result ≡ within_64_of negative n }
-{
-    if n > 0x8000_0000_0000_0000 || n == 0x8000_0000_0000_0000 && !negative {
-        return None;
-    }
-    if n == 0x8000_0000_0000_0000 {
-        return Some(i64::MIN);
-    }
-    Some(signed(negative, n as u64))
 }

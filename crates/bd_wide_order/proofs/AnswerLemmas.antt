@@ -5,15 +5,13 @@ use Rattle.std.specs.List.{AllByRecursion as Each, cons_option}
 use Rattle.std.proofs.lemmas.{List.length-map, List.Elements.recursion_from_All}
 use Rattle.bd_value.specs.Tree.{doc, Doc, field, fields_of}
 use Rattle.bd_path.specs.Sort.{sort_cmp}
-use Rattle.bd_path.specs.Reach.{Names}
 use Rattle.bd_query_filter.specs.FilterMatch.{matches}
 use Rattle.bd_bson_dump.specs.Collection.{document_at, documents_at}
 use Rattle.bd_cursor_request.specs.Request.{Request}
 use Rattle.bd_cursor_sort.specs.Selection.{matches_at_of, order_of_keys, query_to}
-use Rattle.bd_wide_order.specs.{Pages.HaveOneAnswer, Query.RequestNeeds, Query.renumber_request, Values.values_at}
+use Rattle.bd_wide_order.specs.{Pages.HaveOneAnswer, Query.RequestNeeds, Query.renumber_request}
 use Rattle.bd_wide_order.specs.Renumber.{Codes, under, KeepOrder, DocumentsAreOf, IsOf, renumber, renumber_fields, renumber_document, renumber_documents, renumber_filter}
-use Rattle.bd_wide_order.proofs.ValueLemmas.{values_rise}
-use Rattle.bd_wide_order.proofs.MatchLemmas.{is_of_all, match_stays}
+use Rattle.bd_wide_order.proofs.MatchLemmas.{match_stays}
 use Rattle.bd_wide_order.proofs.PageLemmas.{one_answer}
 use Rattle.bd_wide_order.proofs.ReachLemmas.{sorts_stay}
 use Rattle.bd_wide_order.specs.Ranks.{TypesAlike, table_codes}
@@ -74,12 +72,6 @@ module _ (c : Codes) (up : KeepOrder c) (r : Request) (needs : RequestNeeds c r)
 pub answers_stay : (c : Codes) → KeepOrder c → (r : Request) → RequestNeeds c r → (ds : List Doc) → DocumentsAreOf c ds → (bytes new text : List ℕ)
     → HaveOneAnswer (query_to new (renumber_documents c ds) (renumber_request c text r)) (query_to bytes ds r)
 answers_stay c up r needs ds are bytes new text = requests_stay c up r needs ds (λ p. is_of c ds p (recursion_from_All (λ d. IsOf c (doc (fields_of d))) ds are)) bytes new text
-
--- every number may occur
-pub values_stay : (powers : Names → Option ℕ) (r : Request) → RequestNeeds (values_at powers) r → (ds : List Doc) (bytes new text : List ℕ)
-    → HaveOneAnswer (query_to new (renumber_documents (values_at powers) ds) (renumber_request (values_at powers) text r)) (query_to bytes ds r)
-values_stay powers r needs ds bytes new text =
-    requests_stay (values_at powers) (values_rise powers) r needs ds (λ p. is_of_all (values_at powers) (λ path n. refl) (document_at ds p)) bytes new text
 
 -- each path reads alike, so a request needs only types that are alike
 pub ranked_stay : (table : List ℤ) (r : Request) → TypesAlike r.filter → (ds : List Doc) → DocumentsAreOf (table_codes table) ds → (bytes new text : List ℕ)

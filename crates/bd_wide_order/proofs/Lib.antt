@@ -5,4 +5,3 @@ pub mod PageLemmas
 pub mod QueryLemmas
 pub mod RankLemmas
 pub mod ReachLemmas
-pub mod ValueLemmas

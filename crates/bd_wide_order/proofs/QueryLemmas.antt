@@ -313,6 +313,7 @@ module _ (c : Codes) (query sort : Doc) (skip limit : ℕ) where
   sorted (Ok s) f = counted (nat_le skip greatest_count && nat_le limit greatest_count) f s
   sorted (Err why) f = refl
 
+  -- a request whose query has other numbers is the renumbered request, or it is refused alike
   pub request_read : request_of (renumber_query c query) sort skip limit ≡ then_part (request_of query sort skip limit) (λ r. Ok (renumber_request c other r))
   request_read = ap (λ x. requested x) (query_read c query) ∙ go (filter_of query)
     where

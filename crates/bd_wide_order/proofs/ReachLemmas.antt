@@ -34,6 +34,7 @@ any_map f e h Q same (x ∷ xs) p = ap₂ ◌||◌ (same x p.0) (any_map f e h Q
 to_field : (c end : Codes) (n name : List ℕ) (rest : Names) → LeadTo (under name c) rest end → bytes_eq n name ≡ true → LeadTo (under n c) rest end
 to_field c end n name rest lead e = subst (λ x. LeadTo (under x c) rest end) (sym ((bytes_eq-Decides n name).0 e)) lead
 
+-- each path reads alike if no index leads to other codes
 pub passing_over : (c : Codes) → PassOverIndexes c → (path : Names) → ReadsAlike c path
 passing_over c over [] = refl
 passing_over c over (name ∷ rest) = (

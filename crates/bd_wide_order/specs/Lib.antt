@@ -2,4 +2,3 @@ pub mod Pages
 pub mod Query
 pub mod Ranks
 pub mod Renumber
-pub mod Values

@@ -1,7 +1,6 @@
 //! Laws of other numbers in the same order. The body of each is empty: its contract is the law.
 
-ghost use Rattle.std.specs.Prelude.{Bool, IfSome, List, Ok, Option, Some, false, ◌%◌, ◌<◌, ◌^◌, ◌≡◌, ◌≤◌, map, option_map, ℕ, ℤ};
-ghost use Rattle.std.specs.Float.{Ieee.Exact.HasValue, Ieee.of_bits, binary64};
+ghost use Rattle.std.specs.Prelude.{Bool, List, Ok, false, ◌≡◌, map, option_map, ℕ, ℤ};
 ghost use Rattle.std.specs.List.{list_any};
 ghost use Rattle.bd_value.specs.Order.{cmp};
 ghost use Rattle.bd_value.specs.Tree.{Doc, Tree};
@@ -11,14 +10,11 @@ ghost use Rattle.bd_bson_dump.specs.Collection.{documents_at};
 ghost use Rattle.bd_cursor_request.specs.Refused.{then_part};
 ghost use Rattle.bd_cursor_request.specs.Request.{Request, request_of, request_text};
 ghost use Rattle.bd_cursor_sort.specs.Selection.{query_to};
-ghost use Rattle.bd_wide_number.specs.Code.{number_code};
-ghost use Rattle.bd_wide_number.specs.Value.{finite, has_sign, infinite_bits, magnitude, signed};
 ghost use Rattle.bd_wide_order.specs.Pages.{HaveOneAnswer};
 ghost use Rattle.bd_wide_order.specs.Query.{RequestNeeds, renumber_query, renumber_request};
 ghost use Rattle.bd_wide_order.specs.Ranks.{TypesAlike, table_codes};
 ghost use Rattle.bd_wide_order.specs.Renumber.{KeepOrder, FilterNeeds, Codes, DocumentsAreOf, IsOf, PassOverIndexes};
 ghost use Rattle.bd_wide_order.specs.Renumber.{ReadsAlike, SortsReadAlike, below, renumber, renumber_documents, renumber_filter};
-ghost use Rattle.bd_wide_order.specs.Values.{code_worth, values_at};
 
 /// If each number in documents, and in a filter, is replaced by another, and at each path a number of documents has the same order
 /// beside any number: then a value of a document has the same order beside any value, a path reaches the same in documents, they
@@ -70,26 +66,6 @@ pub fn answers_stay()
     ensures documents { (c : Codes) (ds : List Doc) (places : List ℕ) →
         documents_at (renumber_documents c ds) places
         ≡ renumber_documents c (documents_at ds places) }
-{}
-
-/// A code has the value of its number, and the bits of a double have the value of this double by IEEE 754.
-#[tactic(auto, using(crate::proofs::ValueLemmas::bits_worth, crate::proofs::ValueLemmas::code_worths))]
-pub fn codes_are_worth_their_numbers()
-    ensures codes { (power : Option ℕ) → IfSome power (λ k. k ≤ 6176) →
-        (negative : Bool) (size : ℕ) (code : ℤ) →
-        number_code power (finite negative size) ≡ Some code →
-        code_worth power code ≡ signed negative size }
-    ensures bits { (bits : ℕ) → bits % 2 ^ 63 < infinite_bits →
-        HasValue (of_bits binary64 bits) (has_sign bits) (magnitude (bits % 2 ^ 63)) (2 ^ 1074) }
-{}
-
-/// Over documents with codes by doubles at some paths, and with a power of ten at each of the others, a request has its answer
-/// by value: that of the request over the documents whose numbers are the values of the codes.
-pub fn ordered_dumps_answer_by_value()
-    ensures { (powers : Names → Option ℕ) (r : Request) → let c = values_at powers in
-        RequestNeeds c r → (ds : List Doc) (bytes new text : List ℕ) →
-        HaveOneAnswer (query_to new (renumber_documents c ds) (renumber_request c text r))
-        (query_to bytes ds r) }
 {}
 
 /// Over documents whose numbers are all in a table, with the rank in the table in place of each number, also in the request,

@@ -7,16 +7,14 @@
 //! - `specs/Renumber.antt`: values, documents and filters with other numbers.
 //! - `specs/Ranks.antt`: the code of a number by its rank in a table.
 //! - `specs/Query.antt`: the documents of queries with other numbers, and requests.
-//! - `specs/Values.antt`: the values of the codes of `bd_wide_number`.
 //! - `specs/Pages.antt`: the answer to a request, page by page.
-//! - `laws`: order, keys, sorts, matches and answers stay the same; the law of values; which paths read alike; and that each query
-//!   has a renumbered one.
+//! - `laws`: order, keys, sorts, matches and answers stay the same; which paths read alike; and that each query has a renumbered
+//!   one.
 #![tactic(auto)]
 
 mod laws;
 
 pub use laws::{
-    answers_stay, codes_are_worth_their_numbers, numbers_matter_by_order,
-    ordered_dumps_answer_by_value, paths_read_alike, queries_are_renumbered,
+    answers_stay, numbers_matter_by_order, paths_read_alike, queries_are_renumbered,
     ranked_dumps_answer_by_value,
 };

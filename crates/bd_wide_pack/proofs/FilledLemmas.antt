@@ -2,7 +2,7 @@
 use Rattle.std.proofs.Common.{◌≡◌, ◌⊎◌, inl, inr, ℕ, List, [], ◌∷◌, true, false, refl, sym, ap, ap₂, ◌∙◌, subst, pos, arith}
 use Rattle.bd_value.specs.Tree as trees
 use Rattle.bd_value.specs.Tree.{Scalar, Tree, leaf, doc, array, code_scope, Items, no_items, item, Fields, no_fields, field, Doc, fields_of, items_of, values_of}
-use Rattle.bd_wide_dump.specs.inside.Begins.{values_in}
+use Rattle.bd_wide_dump.specs.Values.{values_in}
 use Rattle.bd_wide_number.specs.declared.number.Number.{Number}
 use Rattle.bd_wide_pack.specs.Filled.{kept, numeric, Stays, IsNext, IsFilled, AreFilled, AreItemsFilled}
 use Rattle.bd_wide_pack.specs.inside.Mixed.{AreAlike}

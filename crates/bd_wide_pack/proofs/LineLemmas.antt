@@ -99,4 +99,4 @@ module _ {E : Type 0} (line : List ℕ) (ps : List Piece) (are : ArePieces line 
       let reads : document_of line ≡ Ok h.0 = read_ok line h.0 h.1.0 in
       let wholes : document_of (with_fillers whole ps) ≡ Ok h.0 = ap (λ (x : List ℕ). document_of x) (no_numbers whole line ps are none) ∙ reads in
       let texts : document_of (with_fillers text ps) ≡ Ok h.0 = ap (λ (x : List ℕ). document_of x) (no_numbers text line ps are none) ∙ reads in
-      (plain h.0, is_packed line ps [] are (sym none) h.0 h.0 (both_is ps (Ok h.0) (Ok h.0) wholes texts) (plain h.0) (plain_mixed h.0 (plain h.0) (law line h.0 h.1)) h.1.1, h.2)
+      (plain h.0, is_packed line ps [] are (sym none) h.0 h.0 (both_is ps (Ok h.0) (Ok h.0) wholes texts) (plain h.0) (plain_mixed h.0 (law line h.0 h.1)) h.1.1, h.2)

@@ -1,5 +1,5 @@
 -- Two documents in step: what was found of the elements so far, and of one value.
-use Rattle.std.proofs.Common.{◌≡◌, inl, inr, ℕ, ℤ, ◌≤◌, ◌+◌, ◌-◌, List, [], ◌∷◌, ◌++◌, length, take, drop, Bool, true, false, refl, sym, ap, ◌∙◌, subst, pos, arith, append-nil, append_assoc, length-append, take_at, drop_at}
+use Rattle.std.proofs.Common.{◌≡◌, inl, inr, ℕ, ℤ, ◌≤◌, ◌+◌, ◌-◌, List, [], ◌∷◌, ◌++◌, length, suc, take, drop, Bool, true, false, refl, sym, ap, ◌∙◌, subst, pos, arith, append-nil, append_assoc, length-append, take_at, drop_at}
 use Rattle.bd_value.specs.declared.node.Kind.{Kind}
 use Rattle.bd_value.specs.declared.node.Kind.TheVariants as kinds
 use Rattle.bd_value.specs.View.{kind_of, scalar_kind}
@@ -10,20 +10,21 @@ use Rattle.bd_bson_view.specs.Sound.{Remaining, elements_remaining, Sound, meani
 use Rattle.bd_bson_view.specs.Sizes.{HasBytesOf, size_of}
 use Rattle.bd_bson_view.specs.declared.views.At.{At}
 use Rattle.bd_bson_view.proofs.ValueAtLemmas.{reads_at, size_at}
-use Rattle.bd_bson_view.specs.Spelling.{as_int32, as_int64, as_double, as_decimal128, type_byte, is_holder, number, long, string, framed, scoped, IsName, IsText, IsScalar, IsValue, AreFieldsBy, AreItemsBy, IsValueBy, IsValuedScalar, written_typed, valued, nineteen, scalar_bytes}
+use Rattle.bd_bson_view.specs.Spelling.{as_int32, as_int64, as_double, as_decimal128, type_byte, is_holder, number, long, string, framed, scoped, IsName, IsText, IsScalar, IsValue, AreFieldsBy, IsValuedScalar, written_typed, nineteen, scalar_bytes}
 use Rattle.bd_bson_view.specs.Unique.{values, number_length, no_holder}
 use Rattle.bd_wide_dump.specs.Raw.{raw}
-use Rattle.bd_wide_dump.specs.inside.Begins.{values_in}
+use Rattle.bd_wide_dump.specs.Values.{values_in}
 use Rattle.bd_wide_number.specs.declared.number.Number.{Number}
 use Rattle.bd_wide_number.specs.declared.number.Number.TheVariants as numbers
 use Rattle.bd_wide_pack.specs.Filled.{kept, numeric, IsFilled, AreFilled}
-use Rattle.bd_wide_pack.specs.inside.Mixed.{AreAlike, AreMixed, AreUnlike, IsMixed, IsUnlike, Goes}
+use Rattle.bd_wide_pack.specs.inside.Mixed.{AreAlike, AreMixed, AreUnlike, AreWritten, HasName, IsMixed, IsUnlike, Goes}
+use Rattle.bd_wide_pack.specs.Written.{AreFieldsWritten, IsWritten}
 use Rattle.bd_wide_pack.proofs.FilledLemmas.{form, forms, one_tree, one_fields, filled_as, fields_as, items_as, alike_fields, fields_alike, alike_items, items_alike}
 
 -- ---- the elements so far
 
-pub goes_start : (named : Bool) (ws ts : Doc) (n : List Number) (out : List ℕ) → Goes named ws ts n ws ts n out out
-goes_start named ws ts n out = record { bytes = []; written = sym (append-nil out); on = λ after more m. m; back = λ fs after h. (fs, h) }
+pub goes_start : (named : Bool) (ws ts : Doc) (n : List Number) (out : List ℕ) → Goes named ws ts n 0 ws ts n out out
+goes_start named ws ts n out = record { bytes = []; written = sym (append-nil out); few = omega arith; on = λ after more m. m; back = λ fs after h. (fs, h) }
 
 -- equal lists of pairs begin with equal pairs
 head_name : (p q : Pair) (ps qs : Doc) → p ∷ ps ≡ q ∷ qs → p.0 ≡ q.0
@@ -51,21 +52,39 @@ alike_tail named (field n x gs) name other w t tree ws ts before between after f
     let R : List Number → Type 0 = λ k. AreAlike named gs h.3 h.4 k after in
     (gs, subst P rest (subst Q others (subst R (sym same) h.10)))
 
+-- the next element is written before the others
+written_next : (named : Bool) (index : ℕ) (name under value more : List ℕ) (x : Tree) (fs : Fields) → IsName name → HasName named index name under → IsWritten x value
+    → AreWritten named (suc index) fs more → AreWritten named index (field name x fs) (written_typed x under value ++ more)
+written_next true index name under value more x fs is_name e is rest = (value, more, is_name, is, rest, ap (λ (k : List ℕ). written_typed x k value ++ more) e)
+written_next false index name under value more x fs is_name e is rest = (value, more, is, rest, ap (λ (k : List ℕ). written_typed x k value ++ more) e)
+
+written_none : (named : Bool) (index : ℕ) → AreWritten named index no_fields []
+written_none true index = refl
+written_none false index = refl
+
+some_bytes : (x : Tree) (name value : List ℕ) → 1 ≤ length (written_typed x name value)
+some_bytes (leaf (trees.int64 z)) name [] = omega arith
+some_bytes (leaf (trees.int64 z)) name (type ∷ value) = omega arith
+some_bytes x name value = omega arith
+
 -- one more element of both
-pub goes_next : (named : Bool) (ws0 ts0 ws ts ws1 ts1 : Doc) (n0 n n1 : List Number) (name other : List ℕ) (w t : Tree) (old mid new : List ℕ) → Goes named ws0 ts0 n0 ws ts n old mid
-    → ws ≡ (name, w) ∷ ws1 → ts ≡ (other, t) ∷ ts1 → IsName name → (named ≡ true → name ≡ other) → IsMixed name w t n n1 mid new → Goes named ws0 ts0 n0 ws1 ts1 n1 old new
-goes_next named ws0 ts0 ws ts ws1 ts1 n0 n n1 name other w t old mid new g e f is_name same m =
-    let item : List ℕ = written_typed m.tree name m.value in
+pub goes_next : (named : Bool) (ws0 ts0 ws ts ws1 ts1 : Doc) (n0 n n1 : List Number) (index : ℕ) (name other under : List ℕ) (w t : Tree) (old mid new : List ℕ) → Goes named ws0 ts0 n0 index ws ts n old mid
+    → ws ≡ (name, w) ∷ ws1 → ts ≡ (other, t) ∷ ts1 → IsName name → (named ≡ true → name ≡ other) → HasName named index name under → IsMixed under w t n n1 mid new
+    → Goes named ws0 ts0 n0 (index + 1) ws1 ts1 n1 old new
+goes_next named ws0 ts0 ws ts ws1 ts1 n0 n n1 index name other under w t old mid new g e f is_name same has m =
+    let item : List ℕ = written_typed m.tree under m.value in
+    let next : index + 1 ≡ suc index = omega arith in
     record {
       bytes = g.bytes ++ item;
       written = m.written ∙ ap (λ (x : List ℕ). x ++ item) g.written ∙ append_assoc old g.bytes item;
+      few = omega (arith, length-append g.bytes item, g.few, some_bytes m.tree under m.value);
       on = λ after more x.
-          let inner : AreMixed named ws ts n after (item ++ more) = record {
+          let inner : AreMixed named index ws ts n after (item ++ more) = record {
             fields = field name m.tree x.fields;
             alike = (w, t, other, ws1, ts1, n1, e, f, same, m.filled, x.alike);
-            spell = (m.value, more, is_name, m.spells, x.spell, refl);
+            written = written_next named index name under m.value more m.tree x.fields is_name has m.is (subst (λ (k : ℕ). AreWritten named k x.fields more) next x.written);
           } in
-          let P : List ℕ → Type 0 = λ b. AreMixed named ws0 ts0 n0 after b in
+          let P : List ℕ → Type 0 = λ b. AreMixed named 0 ws0 ts0 n0 after b in
           subst P (sym (append_assoc g.bytes item more)) (g.on after (item ++ more) inner);
       back = λ fs after h.
           let r = g.back fs after h in
@@ -75,14 +94,14 @@ goes_next named ws0 ts0 ws ts ws1 ts1 n0 n n1 name other w t old mid new g e f i
     }
 
 -- nothing remains of either
-pub goes_end : (named : Bool) (ws0 ts0 ws ts : Doc) (n0 n : List Number) (old new : List ℕ) → Goes named ws0 ts0 n0 ws ts n old new → ws ≡ [] → ts ≡ []
-    → (bytes : List ℕ) × AreMixed named ws0 ts0 n0 n bytes × (new ≡ old ++ bytes)
-goes_end named ws0 ts0 ws ts n0 n old new g e f =
-    let all : AreMixed named ws0 ts0 n0 n (g.bytes ++ []) = g.on n [] (record { fields = no_fields; alike = (e, f, refl); spell = refl }) in
+pub goes_end : (named : Bool) (ws0 ts0 ws ts : Doc) (n0 n : List Number) (index : ℕ) (old new : List ℕ) → Goes named ws0 ts0 n0 index ws ts n old new → ws ≡ [] → ts ≡ []
+    → (bytes : List ℕ) × AreMixed named 0 ws0 ts0 n0 n bytes × (new ≡ old ++ bytes)
+goes_end named ws0 ts0 ws ts n0 n index old new g e f =
+    let all : AreMixed named 0 ws0 ts0 n0 n (g.bytes ++ []) = g.on n [] (record { fields = no_fields; alike = (e, f, refl); written = written_none named index }) in
     (g.bytes ++ [], all, g.written ∙ ap (λ (x : List ℕ). old ++ x) (sym (append-nil g.bytes)))
 
 -- why never elements are alike: one list ends before the other, two names differ, or two values do
-module _ (named : Bool) (ws0 ts0 ws ts : Doc) (n0 n : List Number) (old new : List ℕ) (g : Goes named ws0 ts0 n0 ws ts n old new) where
+module _ (named : Bool) (ws0 ts0 ws ts : Doc) (n0 n : List Number) (index : ℕ) (old new : List ℕ) (g : Goes named ws0 ts0 n0 index ws ts n old new) where
   unlike_by : ((gs : Fields) (after : List Number) → AreAlike named gs ws ts n after → ⊥) → AreUnlike named ws0 ts0 n0
   unlike_by never fs after h = let r = g.back fs after h in never r.0 after r.1
 
@@ -137,37 +156,33 @@ led : (old : List ℕ) (b : ℕ) (name v : List ℕ) → (old ++ (b ∷ (name ++
 led old b name v = simp append_assoc
 
 module _ (w t : Tree) (ws ts : Doc) (before : List Number) where
-  pub document_mixed : (name : List ℕ) (after : List Number) (bytes old mid new : List ℕ) → w ≡ doc (fields_of ws) → t ≡ doc (fields_of ts) → AreMixed true ws ts before after bytes
+  pub document_mixed : (name : List ℕ) (after : List Number) (bytes old mid new : List ℕ) → w ≡ doc (fields_of ws) → t ≡ doc (fields_of ts) → AreMixed true 0 ws ts before after bytes
       → mid ≡ old ++ (3 ∷ (name ++ 0 ∷ [])) → new ≡ mid ++ framed bytes → IsMixed name w t before after old new
   document_mixed name after bytes old mid new e f m put is = record {
     tree = doc m.fields;
     value = framed bytes;
     filled = (fields_of ws, fields_of ts, e, f, alike_fields m.fields ws ts before after m.alike);
-    spells = (bytes, m.spell, refl);
+    is = (bytes, m.written, refl);
     written = is ∙ ap (λ (x : List ℕ). x ++ framed bytes) put ∙ led old 3 name (framed bytes);
   }
 
-  pub array_mixed : (name : List ℕ) (after : List Number) (bytes old mid new : List ℕ) → w ≡ array (items_of (values_of ws)) → t ≡ array (items_of (values_of ts)) → AreMixed false ws ts before after bytes
+  pub array_mixed : (name : List ℕ) (after : List Number) (bytes old mid new : List ℕ) → w ≡ array (items_of (values_of ws)) → t ≡ array (items_of (values_of ts)) → AreMixed false 0 ws ts before after bytes
       → mid ≡ old ++ (4 ∷ (name ++ 0 ∷ [])) → new ≡ mid ++ framed bytes → IsMixed name w t before after old new
   array_mixed name after bytes old mid new e f m put is = record {
     tree = array (values_in m.fields);
     value = framed bytes;
     filled = (items_of (values_of ws), items_of (values_of ts), e, f, alike_items m.fields ws ts before after m.alike);
-    spells = (bytes, items_spelled m.fields bytes m.spell, refl);
+    is = (bytes, m.written, refl);
     written = is ∙ ap (λ (x : List ℕ). x ++ framed bytes) put ∙ led old 4 name (framed bytes);
   }
-    where
-      items_spelled : (fs : Fields) (b : List ℕ) → AreFieldsBy (valued raw) fs b → AreItemsBy (valued raw) (values_in fs) b
-      items_spelled no_fields b h = h
-      items_spelled (field n x fs) b h = (n, h.0, h.1, h.2, h.3, items_spelled fs h.1 h.4, h.5)
 
   pub scope_mixed : (code name : List ℕ) (after : List Number) (bytes old mid new : List ℕ) → IsText code → w ≡ code_scope code (fields_of ws) → t ≡ code_scope code (fields_of ts)
-      → AreMixed true ws ts before after bytes → mid ≡ old ++ (15 ∷ (name ++ 0 ∷ [])) → new ≡ mid ++ scoped code (framed bytes) → IsMixed name w t before after old new
+      → AreMixed true 0 ws ts before after bytes → mid ≡ old ++ (15 ∷ (name ++ 0 ∷ [])) → new ≡ mid ++ scoped code (framed bytes) → IsMixed name w t before after old new
   scope_mixed code name after bytes old mid new text e f m put is = record {
     tree = code_scope code m.fields;
     value = scoped code (framed bytes);
     filled = (fields_of ws, fields_of ts, e, f, alike_fields m.fields ws ts before after m.alike);
-    spells = (bytes, m.spell, refl, text);
+    is = (bytes, m.written, refl, text);
     written = is ∙ ap (λ (x : List ℕ). x ++ scoped code (framed bytes)) put ∙ led old 15 name (scoped code (framed bytes));
   }
 
@@ -318,7 +333,7 @@ module _ (kind : Kind) (w t : Tree) (n : List Number) (plain : is_holder kind �
         tree = leaf (kept s.0);
         value = k.value;
         filled = inl (record { scalar = s.0; is = refl; in_whole = s.1; in_text = same ∙ s.1; none = refl });
-        spells = k.spells;
+        is = k.spells;
         written = is ∙ ap (λ (x : List ℕ). x ++ v) put ∙ led old (type_byte kind) name v
             ∙ ap (λ (x : List ℕ). old ++ x) (ap (λ (b : ℕ). b ∷ (name ++ 0 ∷ v)) byte ∙ sym (k.whole name));
       }
@@ -342,14 +357,14 @@ pub same_value : (w t : Tree) (v b : List ℕ) → IsValue w v → IsValue t b �
 same_value w t v b h i kind same = (values t w b v [] [] i h kind (ap (λ (x : List ℕ). x ++ []) same)).0
 
 pub number_mixed : (name : List ℕ) (w t : Tree) (x : Number) (n after : List Number) (old new value : List ℕ) → w ≡ leaf (trees.int32 (pos 0)) → t ≡ leaf (trees.text []) → n ≡ x ∷ after
-    → IsValueBy (valued raw) (leaf (numeric x)) value → new ≡ old ++ written_typed (leaf (numeric x)) name value → IsMixed name w t n after old new
+    → IsWritten (leaf (numeric x)) value → new ≡ old ++ written_typed (leaf (numeric x)) name value → IsMixed name w t n after old new
 number_mixed name w t x n after old new value e f taken h is =
-    record { tree = leaf (numeric x); value = value; filled = inr (record { number = x; is = refl; in_whole = e; in_text = f; taken = taken }); spells = h; written = is }
+    record { tree = leaf (numeric x); value = value; filled = inr (record { number = x; is = refl; in_whole = e; in_text = f; taken = taken }); is = h; written = is }
 
 -- ---- the elements that are numbers
 
 pub whole_put : (z : ℤ) (name old mid new : List ℕ) → mid ≡ old ++ (18 ∷ (name ++ 0 ∷ [])) → new ≡ mid ++ scalar_bytes (trees.int64 z)
-    → (value : List ℕ) × IsValueBy (valued raw) (leaf (numeric (numbers.Whole z))) value × (new ≡ old ++ written_typed (leaf (numeric (numbers.Whole z))) name value)
+    → (value : List ℕ) × IsWritten (leaf (numeric (numbers.Whole z))) value × (new ≡ old ++ written_typed (leaf (numeric (numbers.Whole z))) name value)
 whole_put z name old mid new put is = (
   18 ∷ scalar_bytes (trees.int64 z),
   record { kind = as_int64; value = scalar_bytes (trees.int64 z); typed = refl; sized = long_length _; is_worth = refl },
@@ -357,7 +372,7 @@ whole_put z name old mid new put is = (
 )
 
 pub double_put : (bits : ℕ) (name old mid new : List ℕ) → mid ≡ old ++ (1 ∷ (name ++ 0 ∷ [])) → new ≡ mid ++ long bits
-    → (value : List ℕ) × IsValueBy (valued raw) (leaf (numeric (numbers.Double bits))) value × (new ≡ old ++ written_typed (leaf (numeric (numbers.Double bits))) name value)
+    → (value : List ℕ) × IsWritten (leaf (numeric (numbers.Double bits))) value × (new ≡ old ++ written_typed (leaf (numeric (numbers.Double bits))) name value)
 double_put bits name old mid new put is = (
   1 ∷ long bits,
   record { kind = as_double; value = long bits; typed = refl; sized = long_length bits; is_worth = refl },
@@ -365,7 +380,7 @@ double_put bits name old mid new put is = (
 )
 
 pub decimal_put : (low high : ℕ) (name old mid half new : List ℕ) → mid ≡ old ++ (19 ∷ (name ++ 0 ∷ [])) → half ≡ mid ++ long low → new ≡ half ++ long high
-    → (value : List ℕ) × IsValueBy (valued raw) (leaf (numeric (numbers.Decimal128 low high))) value × (new ≡ old ++ written_typed (leaf (numeric (numbers.Decimal128 low high))) name value)
+    → (value : List ℕ) × IsWritten (leaf (numeric (numbers.Decimal128 low high))) value × (new ≡ old ++ written_typed (leaf (numeric (numbers.Decimal128 low high))) name value)
 decimal_put low high name old mid half new put first is =
     let size : length (long low ++ long high) ≡ 16 = omega (arith, length-append (long low) (long high), long_length low, long_length high) in (
       19 ∷ (long low ++ long high),
@@ -404,21 +419,21 @@ scoped_out o m1 m2 new code scope at start a b is =
 
 -- ---- a whole document
 
-pub mixed_whole : (ws ts w t : Doc) (n : List Number) (bytes out new : List ℕ) → ws ≡ w → ts ≡ t → AreMixed true ws ts n [] bytes → new ≡ out ++ framed bytes
-    → (d : Doc) × (b : List ℕ) × AreFilled (fields_of d) (fields_of w) (fields_of t) n [] × IsValueBy (valued raw) (doc (fields_of d)) b × (new ≡ out ++ b)
+pub mixed_whole : (ws ts w t : Doc) (n : List Number) (bytes out new : List ℕ) → ws ≡ w → ts ≡ t → AreMixed true 0 ws ts n [] bytes → new ≡ out ++ framed bytes
+    → (d : Doc) × (b : List ℕ) × AreFilled (fields_of d) (fields_of w) (fields_of t) n [] × IsWritten (doc (fields_of d)) b × (new ≡ out ++ b)
 mixed_whole ws ts w t n bytes out new e f m is =
     let same : m.fields ≡ fields_of (pairs_of m.fields) = sym (fields_of-pairs_of m.fields) in
     let P : Fields → Type 0 = λ fs. AreFilled fs (fields_of w) (fields_of t) n [] in
-    let Q : Fields → Type 0 = λ fs. AreFieldsBy (valued raw) fs bytes in
+    let Q : Fields → Type 0 = λ fs. AreFieldsWritten fs bytes in
     let filled = fields_as m.fields (fields_of ws) (fields_of w) (fields_of ts) (fields_of t) n n [] (ap fields_of e) (ap fields_of f) refl (alike_fields m.fields ws ts n [] m.alike) in
-    (pairs_of m.fields, framed bytes, subst P same filled, (bytes, subst Q same m.spell, refl), is)
+    (pairs_of m.fields, framed bytes, subst P same filled, (bytes, subst Q same m.written, refl), is)
 
 pub unlike_whole : (ws ts w t : Doc) (n : List Number) → ws ≡ w → ts ≡ t → AreUnlike true ws ts n → (fs : Fields) → AreFilled fs (fields_of w) (fields_of t) n [] → ⊥
 unlike_whole ws ts w t n e f never fs h =
     never fs [] (fields_alike fs ws ts n [] (fields_as fs (fields_of w) (fields_of ws) (fields_of t) (fields_of ts) n n [] (ap fields_of (sym e)) (ap fields_of (sym f)) refl h))
 
 -- more numbers remain than the document has places for
-pub too_many_whole : (ws ts w t : Doc) (n rest : List Number) (bytes : List ℕ) → ws ≡ w → ts ≡ t → AreMixed true ws ts n rest bytes → (rest ≡ [] → ⊥) → (fs : Fields)
+pub too_many_whole : (ws ts w t : Doc) (n rest : List Number) (bytes : List ℕ) → ws ≡ w → ts ≡ t → AreMixed true 0 ws ts n rest bytes → (rest ≡ [] → ⊥) → (fs : Fields)
     → AreFilled fs (fields_of w) (fields_of t) n [] → ⊥
 too_many_whole ws ts w t n rest bytes e f m some fs h =
     let filled = fields_as m.fields (fields_of ws) (fields_of w) (fields_of ts) (fields_of t) n n rest (ap fields_of e) (ap fields_of f) refl (alike_fields m.fields ws ts n rest m.alike) in

@@ -1,3 +1,4 @@
 pub mod Filled
 pub mod WideLine
+pub mod Written
 pub mod inside

@@ -2,22 +2,21 @@
 use Rattle.std.specs.Prelude.{◌≡◌, ◌⊎◌, ◌≤◌, ◌<◌, ℕ, List, [], length}
 use Rattle.bd_value.specs.{Limits.longest_document, Tree.Doc}
 use Rattle.bd_value.specs.Tree.{doc, Fields, fields_of}
-use Rattle.bd_bson_view.specs.Spelling.{IsValueBy, valued}
 use Rattle.bd_extjson_fault.specs.declared.json_fault.JsonFault.{JsonFault}
 use Rattle.bd_extjson_fault.specs.declared.json_fault.JsonFaultKind.TheVariants as kinds
 use Rattle.bd_extjson_pack.specs.Packable.{plain}
 use Rattle.bd_extjson_pack.specs.declared.line.LineFault.{LineFault}
 use Rattle.bd_extjson_pack.specs.declared.line.LineFault.TheVariants as faults
-use Rattle.bd_wide_dump.specs.Raw.{raw}
 use Rattle.bd_wide_number.specs.declared.number.Number.{Number}
 use Rattle.bd_wide_pack.specs.Filled.{AreFilled}
+use Rattle.bd_wide_pack.specs.Written.{IsWritten}
 use Rattle.bd_wide_substitute.specs.Both.{IsRead, IsUnread}
 
--- The bytes are a document with these numbers, where the two documents have other values.
+-- The bytes are written for a document with these numbers, where the two documents have other values.
 pub record IsMixed (wholes texts : Doc) (numbers : List Number) (bytes : List ℕ) : Type 0 where
   pub fields : Fields
   pub filled : AreFilled fields (fields_of wholes) (fields_of texts) numbers []
-  pub spelled : IsValueBy (valued raw) (doc fields) bytes
+  pub written : IsWritten (doc fields) bytes
 
 -- The line is Extended JSON of a document of all types, and these are its bytes, at most 16,793,600.
 pub record IsPacked (line bytes : List ℕ) : Type 0 where

@@ -6,11 +6,11 @@ ghost use Rattle.bd_value.specs.Tree as trees;
 ghost use Rattle.bd_value.specs.Tree.{Doc, Fields, leaf, doc, code_scope, fields_of, int32};
 ghost use Rattle.bd_value.specs.View.{kind_of};
 ghost use Rattle.bd_bson_view.specs.Raw.{value_tree, value_source, remaining_pairs, elements_source};
-ghost use Rattle.bd_bson_view.specs.Spelling.{IsDocument, IsValue, IsValueBy, framed, is_holder, long, number, string, valued, written_typed};
-ghost use Rattle.bd_wide_dump.specs.Raw.{raw};
+ghost use Rattle.bd_bson_view.specs.Spelling.{IsDocument, IsValue, framed, is_holder, long, number, string};
 ghost use Rattle.bd_wide_number.specs.declared.number.Number.TheVariants.{Whole, Double, Decimal128};
 ghost use Rattle.bd_wide_pack.specs.Filled.{AreFilled};
-ghost use Rattle.bd_wide_pack.specs.inside.Mixed.{AreMixed, AreUnlike, IsMixed, IsPut, IsUnlike};
+ghost use Rattle.bd_wide_pack.specs.Written.{IsWritten};
+ghost use Rattle.bd_wide_pack.specs.inside.Mixed.{AreMixed, AreUnlike, HasName, IsMixed, IsPut, IsUnlike};
 
 use bd_bson_view::{Elements, RawDoc, RawValue, raw_parts, type_byte};
 use bd_value::{Kind, NoMemory, Node, Reading, Scalar};
@@ -36,7 +36,7 @@ pub fn mix(
     ensures mixed { (w t : Doc) → IsDocument w wholes.now → IsDocument t texts.now
         → result ≡ Ok true → (d : Doc) × (bytes : List ℕ)
         × AreFilled (fields_of d) (fields_of w) (fields_of t) numbers.now []
-        × IsValueBy (valued raw) (doc (fields_of d)) bytes
+        × IsWritten (doc (fields_of d)) bytes
         × (out.new.items ≡ out.old.items ++ bytes) }
     ensures unlike { (w t : Doc) → IsDocument w wholes.now → IsDocument t texts.now
         → result ≡ Ok false → (fs : Fields)
@@ -68,7 +68,7 @@ fn body<'a>(
         (AreUnlike named (remaining_pairs wholes.entry)
         (remaining_pairs texts.entry) numbers.entry.now)
         (λ rest. (bytes : List ℕ)
-        × AreMixed named (remaining_pairs wholes.entry)
+        × AreMixed named 0 (remaining_pairs wholes.entry)
         (remaining_pairs texts.entry) numbers.entry.now rest.now bytes
         × (out.new.items ≡ out.old.items ++ framed bytes))) }
 {
@@ -98,13 +98,14 @@ fn elements<'a>(
         (AreUnlike named (remaining_pairs wholes.entry)
         (remaining_pairs texts.entry) numbers.entry.now)
         (λ rest. (bytes : List ℕ)
-        × AreMixed named (remaining_pairs wholes.entry)
+        × AreMixed named 0 (remaining_pairs wholes.entry)
         (remaining_pairs texts.entry) numbers.entry.now rest.now bytes
         × (out.new.items ≡ out.old.items ++ bytes))) }
 {
     let mut whole_rest = wholes;
     let mut text_rest = texts;
     let mut rest = numbers;
+    let mut index = 0usize;
     while let Some((name, whole, whole_after)) = whole_rest.next() {
         let Some((other, text, text_after)) = text_rest.next() else {
             return Ok(None);
@@ -112,10 +113,13 @@ fn elements<'a>(
         if names_differ(named, name, other) {
             return Ok(None);
         }
-        let Some(more) = value(name, whole, text, sources, rest, out)? else {
+        let mut digits = itoa::Buffer::new();
+        let under = name_of(named, name, index, &mut digits);
+        let Some(more) = value(under, whole, text, sources, rest, out)? else {
             return Ok(None);
         };
         rest = more;
+        index += 1;
         whole_rest = whole_after;
         text_rest = text_after;
     }
@@ -123,6 +127,13 @@ fn elements<'a>(
         Some(_) => Ok(None),
         None => Ok(Some(rest)),
     }
+}
+
+/// The name of an element: of an array it is the index in decimal.
+fn name_of<'a>(named: bool, name: &'a str, index: usize, digits: &'a mut itoa::Buffer) -> &'a str
+    ensures { HasName named index name.now result.now }
+{
+    if named { name } else { digits.format(index) }
 }
 
 /// Whether two names differ, where they matter.

@@ -128,8 +128,10 @@ module _ (numbers : List ℤ) (special : ℤ) where
     operators_back c no_operators a = tt
     operators_back c (operator o os) a = (operator_back c o a.0, operators_back c os a.1)
 
+-- a filter whose types are alike keeps them beside NaN
 pub alike_kept : (table : List ℤ) (f : Filter) → TypesAlike f → TypesAlike (beside_nan table f)
 alike_kept table f a = filter_kept table (value_worth nan) f a
 
+-- types that are alike in the filter with codes, beside NaN, are alike in the filter
 pub alike_back : (c : Codes) (table : List ℤ) (f : Filter) → TypesAlike (renumber_filter c (beside_nan table f)) → TypesAlike f
 alike_back c table f a = filter_back table (value_worth nan) c f a

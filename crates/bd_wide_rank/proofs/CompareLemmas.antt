@@ -5,9 +5,9 @@ use Rattle.std.proofs.lemmas.Nat.{mul-pow}
 use Rattle.std.proofs.lemmas.Int.{ints, by_lt_z}
 use Rattle.std.specs.Prelude.{◌<ℤ◌, ◌≤ℤ◌}
 use Rattle.bd_wide_number.specs.Value.{Value, nan, infinite, finite, one, least_double, magnitude, infinite_bits, has_sign, signed, double_value, rank, IsLess, IsEqual}
-use Rattle.bd_wide_number.specs.Code.{number_code}
+use Rattle.bd_wide_number.specs.Code.{double_code}
 use Rattle.bd_wide_number.proofs.OddLemmas.{products}
-use Rattle.bd_wide_number.proofs.CodeLemmas.{finite_is, bits_code, nan_code}
+use Rattle.bd_wide_number.proofs.CodeLemmas.{finite_is}
 use Rattle.std.proofs.lemmas.Bool.{cases_lt}
 use Rattle.std.proofs.Common.{⊎_elim, neg_ℤ}
 use Rattle.bd_wide_number.proofs.ValueLemmas.{by_parts, small_magnitude}
@@ -21,6 +21,7 @@ use Rattle.bd_wide_rank.proofs.SizeLemmas.{unit_pos}
 use Rattle.std.proofs.Common.{◌⊎◌, inl, inr, mul-pos}
 use Rattle.bd_wide_rank.specs.inside.Size.{IsNumberSize}
 
+-- equal values have one shape
 pub shape_at : (v w : Value) (s : Shape) → v ≡ w → IsShapeOf w s → IsShapeOf v s
 shape_at v w s e h = subst (λ x. IsShapeOf x s) (sym e) h
 
@@ -52,6 +53,7 @@ near_size : (s : Size) → s.number < 2 ^ 128 → s.fives ≡ 6176 → 5101 ≤ 
 near_size s few f low high = record { few = few; few_twos = omega arith; few_fives = omega arith; more = omega arith; less = omega arith }
 
 module _ (bits : ℕ) (few : bits % 2 ^ 63 < infinite_bits) where
+  -- a double with exponent 0 has the shape of its fraction
   pub double_low : bits % 2 ^ 63 / 2 ^ 52 ≡ 0
       → IsShapeOf (double_value bits) (shapes.Finite (has_sign bits) (record { number = bits % 2 ^ 63 % 2 ^ 52; twos = 5102; fives = 6176 }))
   double_low none =
@@ -61,6 +63,7 @@ module _ (bits : ℕ) (few : bits % 2 ^ 63 < infinite_bits) where
       shape_at _ _ _ (finite_is bits few)
       (refl, ap (λ (z : ℕ). z * least_double) is ∙ scaled least_double 5102 6176 least_is (size % 2 ^ 52) 0 5102 (omega arith), near_size _ (omega arith) refl (omega arith) (omega arith))
 
+  -- any other finite double has the shape of its fraction with the leading one
   pub double_high : bits % 2 ^ 63 / 2 ^ 52 ≢ 0
       → IsShapeOf (double_value bits) (shapes.Finite (has_sign bits) (record { number = 2 ^ 52 + bits % 2 ^ 63 % 2 ^ 52; twos = 5101 + bits % 2 ^ 63 / 2 ^ 52; fives = 6176 }))
   double_high some =
@@ -73,12 +76,15 @@ module _ (bits : ℕ) (few : bits % 2 ^ 63 < infinite_bits) where
 
 -- ---- the order of doubles by their codes
 
+-- a less number compares as less
 pub less : (m n : ℤ) → m <ℤ n → int_cmp m n ≡ Less
 less m n h = grind (arith, ints)
 
+-- a greater number compares as greater
 pub greater : (m n : ℤ) → n <ℤ m → int_cmp m n ≡ Greater
 greater m n h = grind (arith, ints)
 
+-- a number compares as equal to itself
 pub alike : (n : ℤ) → int_cmp n n ≡ Equal
 alike n = grind (arith, ints)
 
@@ -142,20 +148,12 @@ value_equal (finite s a) (infinite t) e = absurd (by_sign t e)
     by_sign false e = omega arith
 
 -- two codes of one kind are in the order of their numbers
-pub codes_compare : (v w : Value) (c d : ℤ) → number_code None v ≡ Some c → number_code None w ≡ Some d → int_cmp c d ≡ value_cmp v w
+pub codes_compare : (v w : Value) (c d : ℤ) → double_code v ≡ Some c → double_code w ≡ Some d → int_cmp c d ≡ value_cmp v w
 codes_compare v w c d e f = by_lt_z c d
-    (λ (l : c <ℤ d). less c d l ∙ sym (value_less v w ((codes_rise_less None v w c d e f).0 l)))
+    (λ (l : c <ℤ d). less c d l ∙ sym (value_less v w ((codes_rise_less v w c d e f).0 l)))
     (λ (h : d ≤ℤ c). by_lt_z d c
-    (λ (l : d <ℤ c). greater c d l ∙ sym (value_greater v w ((codes_rise_less None w v d c f e).0 l)))
-    (λ (i : c ≤ℤ d). let same : c ≡ d = omega (arith, ints) in int_equal c d same ∙ sym (value_equal v w ((codes_rise_equal None v w c d e f).0 same))))
-
--- every double has a code
-pub double_has_code : (bits : ℕ) → number_code None (double_value bits) ≡ None → ⊥
-unfolding number_code
-double_has_code bits none = ⊎_elim
-    (λ (l : infinite_bits < bits % 2 ^ 63). let no : None ≡ Some (neg_ℤ (pos (2 ^ 63))) = sym none ∙ nan_code bits l in cc)
-    (λ (l : bits % 2 ^ 63 ≤ infinite_bits). let no : None ≡ Some (signed (has_sign bits) (bits % 2 ^ 63)) = sym none ∙ bits_code bits l in cc)
-    (cases_lt infinite_bits (bits % 2 ^ 63))
+    (λ (l : d <ℤ c). greater c d l ∙ sym (value_greater v w ((codes_rise_less w v d c f e).0 l)))
+    (λ (i : c ≤ℤ d). let same : c ≡ d = omega (arith, ints) in int_equal c d same ∙ sym (value_equal v w ((codes_rise_equal v w c d e f).0 same))))
 
 -- what has the shape of a value has the powers of a number
 pub of_number : (v : Value) (s : Shape) → IsShapeOf v s → IsOfNumber s

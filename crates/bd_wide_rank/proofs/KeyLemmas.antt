@@ -6,7 +6,7 @@ use Rattle.std.proofs.lemmas.Int.{ints, by_lt_z}
 use Rattle.std.proofs.lemmas.Bool.{cases_lt}
 use Rattle.std.proofs.lemmas.Bool.Decides.{nat_tests}
 use Rattle.bd_wide_number.specs.Value.{Value, nan, infinite, finite, double_value, has_sign, infinite_bits, signed, value_of, IsEqual}
-use Rattle.bd_wide_number.specs.Code.{double_code, number_code}
+use Rattle.bd_wide_number.specs.Code.{double_code}
 use Rattle.bd_wide_number.proofs.CodeLemmas.{bits_code, nan_code, nan_is, infinite_is}
 use Rattle.bd_wide_number.proofs.LawLemmas.{codes_rise_less, codes_rise_equal, equal_double, one_code}
 use Rattle.bd_wide_number.specs.declared.number.Number.TheVariants as numbers
@@ -15,7 +15,8 @@ use Rattle.bd_wide_rank.specs.declared.compare.Shape.TheVariants as shapes
 use Rattle.bd_wide_rank.specs.declared.size.Size.{Size}
 use Rattle.bd_wide_rank.specs.inside.Shape.{IsShapeOf}
 use Rattle.bd_wide_rank.specs.Worth.{beyond, value_worth, worth_of}
-use Rattle.bd_wide_rank.specs.inside.{Compare.IsNear, Key.IsKey, Key.IsBetween, Key.IsNoDouble, Key.key_bits, Key.key_worth}
+use Rattle.bd_wide_rank.specs.Key.{key_bits, key_worth}
+use Rattle.bd_wide_rank.specs.inside.{Compare.IsNear, Key.IsKey, Key.IsBetween, Key.IsNoDouble}
 use Rattle.bd_wide_rank.proofs.CompareLemmas.{less, greater, alike}
 use Rattle.bd_wide_rank.proofs.WorthLemmas.{double_near, in_order}
 
@@ -38,18 +39,16 @@ no_sign bits l = grind (arith, nat_tests)
 
 -- the double of a key has a code, which is the key less 2 ^ 63
 abbrev Coded : ℕ → Type 0
-Coded key = (c : ℤ) × (number_code None (double_value (key_bits key)) ≡ Some c) × (pos key ≡ c +ℤ pos (2 ^ 63))
+Coded key = (c : ℤ) × (double_code (double_value (key_bits key)) ≡ Some c) × (pos key ≡ c +ℤ pos (2 ^ 63))
 
-at_bits : (key bits : ℕ) (c : ℤ) → key_bits key ≡ bits → number_code None (double_value bits) ≡ Some c → pos key ≡ c +ℤ pos (2 ^ 63) → Coded key
-at_bits key bits c e is sum = (c, ap (λ (b : ℕ). number_code None (double_value b)) e ∙ is, sum)
+at_bits : (key bits : ℕ) (c : ℤ) → key_bits key ≡ bits → double_code (double_value bits) ≡ Some c → pos key ≡ c +ℤ pos (2 ^ 63) → Coded key
+at_bits key bits c e is sum = (c, ap (λ (b : ℕ). double_code (double_value b)) e ∙ is, sum)
 
-at_sign : (bits size : ℕ) (s : Bool) → has_sign bits ≡ s → bits % 2 ^ 63 ≡ size → size ≤ infinite_bits → number_code None (double_value bits) ≡ Some (signed s size)
-unfolding number_code
+at_sign : (bits size : ℕ) (s : Bool) → has_sign bits ≡ s → bits % 2 ^ 63 ≡ size → size ≤ infinite_bits → double_code (double_value bits) ≡ Some (signed s size)
 at_sign bits size s e f l =
     bits_code bits (omega arith) ∙ ap (λ (t : Bool). Some (signed t (bits % 2 ^ 63))) e ∙ ap (λ (n : ℕ). Some (signed s n)) f
 
 coded_nan : (key : ℕ) → key ≡ 0 → Coded key
-unfolding number_code
 coded_nan key none =
     at_bits key (2 ^ 63 - 1) (neg_ℤ (pos (2 ^ 63))) (ap key_bits none) (nan_code (2 ^ 63 - 1) (omega arith)) (ap pos none ∙ (let e : pos 0 ≡ neg_ℤ (pos (2 ^ 63)) +ℤ pos (2 ^ 63) = omega (arith, ints) in e))
 
@@ -85,7 +84,7 @@ keys_rise k l p q up =
     let a = coded k p in
     let b = coded l q in
     let order : a.0 <ℤ b.0 = omega (arith, ints, a.2, b.2) in
-    (in_order _ _ (key_near k) (key_near l)).0.1 ((codes_rise_less None _ _ a.0 b.0 a.1 b.1).0 order)
+    (in_order _ _ (key_near k) (key_near l)).0.1 ((codes_rise_less _ _ a.0 b.0 a.1 b.1).0 order)
 
 pub keys_rise_or : (k l : ℕ) → IsKey k → IsKey l → k ≤ l → key_worth k ≤ℤ key_worth l
 keys_rise_or k l p q up = ⊎_elim
@@ -104,8 +103,7 @@ keys_compare k l p q = by_lt_z (pos k) (pos l)
 -- ---- the key of a code
 
 -- a code of a double is a key less 2 ^ 63
-key_of_code : (bits key : ℕ) (c : ℤ) → number_code None (double_value bits) ≡ Some c → pos key ≡ c +ℤ pos (2 ^ 63) → IsKey key
-unfolding number_code
+key_of_code : (bits key : ℕ) (c : ℤ) → double_code (double_value bits) ≡ Some c → pos key ≡ c +ℤ pos (2 ^ 63) → IsKey key
 key_of_code bits key c is sum = ⊎_elim
     (λ (l : infinite_bits < bits % 2 ^ 63).
     let e : Some c ≡ Some (neg_ℤ (pos (2 ^ 63))) = sym is ∙ nan_code bits l in
@@ -136,24 +134,24 @@ equal_near (finite s n) (infinite true) e near = absurd (omega arith)
 equal_near (finite s n) (infinite false) e near = absurd (omega arith)
 
 -- the key of the double that equals a value
-pub key_of_value : (v : Value) (c : ℤ) (key : ℕ) → number_code None v ≡ Some c → pos key ≡ c +ℤ pos (2 ^ 63) → IsKey key × (key_worth key ≡ value_worth v)
+pub key_of_value : (v : Value) (c : ℤ) (key : ℕ) → double_code v ≡ Some c → pos key ≡ c +ℤ pos (2 ^ 63) → IsKey key × (key_worth key ≡ value_worth v)
 unfolding key_worth
 key_of_value v c key is sum =
     let found = equal_double v c is in
     let near : IsNear v = equal_near v (double_value found.0) found.2 (double_near found.0) in
-    let same : number_code None (double_value found.0) ≡ Some c = sym (one_code None v (double_value found.0) found.2) ∙ is in
+    let same : double_code (double_value found.0) ≡ Some c = sym (one_code v (double_value found.0) found.2) ∙ is in
     let good : IsKey key = key_of_code found.0 key c same sum in
     let k = coded key good in
     let e : k.0 ≡ c = omega (arith, ints, k.2) in
-    (good, (in_order _ _ (key_near key) near).1.1 ((codes_rise_equal None _ _ k.0 c k.1 is).0 e))
+    (good, (in_order _ _ (key_near key) near).1.1 ((codes_rise_equal _ _ k.0 c k.1 is).0 e))
 
 -- a value that has no code is that of no double
-pub no_double : (v : Value) → IsNear v → number_code None v ≡ None → IsNoDouble (value_worth v)
+pub no_double : (v : Value) → IsNear v → double_code v ≡ None → IsNoDouble (value_worth v)
 unfolding key_worth
 no_double v near none = λ key good same.
     let k = coded key good in
     let equal = (in_order _ _ (key_near key) near).1.0 same in
-    let no : Some k.0 ≡ None = sym k.1 ∙ one_code None _ v equal ∙ none in
+    let no : Some k.0 ≡ None = sym k.1 ∙ one_code _ v equal ∙ none in
     let f : ⊥ = cc in f
 
 -- ---- all finite numbers
@@ -189,23 +187,23 @@ all_between s n near = record {
 }
 
 -- a number that no double equals is finite
-no_nan : number_code None nan ≡ None → ⊥
-unfolding number_code double_code
+no_nan : double_code nan ≡ None → ⊥
+unfolding double_code
 no_nan none = cc
 
-no_infinite : (s : Bool) → number_code None (infinite s) ≡ None → ⊥
-unfolding number_code double_code
+no_infinite : (s : Bool) → double_code (infinite s) ≡ None → ⊥
+unfolding double_code
 no_infinite s none = cc
 
 -- it is not of another shape
-pub no_shape : (v : Value) (s : Shape) → IsShapeOf v s → number_code None v ≡ None → ((t : Bool) (z : Size) → s ≡ shapes.Finite t z → ⊥) → ⊥
+pub no_shape : (v : Value) (s : Shape) → IsShapeOf v s → double_code v ≡ None → ((t : Bool) (z : Size) → s ≡ shapes.Finite t z → ⊥) → ⊥
 no_shape nan s is none other = no_nan none
 no_shape (infinite t) s is none other = no_infinite t none
 no_shape (finite t n) (shapes.Finite u z) is none other = other u z refl
 no_shape (finite t n) shapes.NotANumber is none other = is
 no_shape (finite t n) (shapes.Infinite u) is none other = is
 
-pub between_all : (v : Value) → IsNear v → number_code None v ≡ None → IsBetween (2 ^ 63 - infinite_bits) (2 ^ 63 + infinite_bits) (value_worth v)
+pub between_all : (v : Value) → IsNear v → double_code v ≡ None → IsBetween (2 ^ 63 - infinite_bits) (2 ^ 63 + infinite_bits) (value_worth v)
 between_all nan near none = absurd (no_nan none)
 between_all (infinite s) near none = absurd (no_infinite s none)
 between_all (finite s n) near none = all_between s n near
@@ -237,6 +235,7 @@ module _ (key : ℕ) (worth : ℤ) (is : IsBetween key (key + 1) worth) (other :
       let up : key_worth (key + 1) ≤ℤ key_worth other = keys_rise_or (key + 1) other is.high_key good (omega arith) in
       let below : worth <ℤ key_worth (key + 1) = is.below in omega (arith, ints)
 
+  -- the number is above each double up to the lower bound
   pub above_double : other ≤ key → key_worth other <ℤ worth
   above_double l =
       let up : key_worth other ≤ℤ key_worth key = keys_rise_or other key good is.low_key l in

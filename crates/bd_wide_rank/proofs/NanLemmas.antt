@@ -8,7 +8,8 @@ use Rattle.bd_wide_number.specs.Value.{nan}
 use Rattle.bd_wide_rank.specs.{Rank.code, Rank.is_among, Rank.rank, Rank.weight, Table.worths, Worth.value_worth}
 use Rattle.bd_wide_rank.specs.declared.between.Between.{Between}
 use Rattle.bd_wide_rank.specs.declared.table.Table.{Table}
-use Rattle.bd_wide_rank.specs.inside.{Key.IsKey, Key.key_worth, Rows.between_worth, Rows.between_worths, Rows.key_worths}
+use Rattle.bd_wide_rank.specs.{Key.key_worth, Key.key_worths, Rows.between_worth, Rows.between_worths}
+use Rattle.bd_wide_rank.specs.inside.Key.{IsKey}
 use Rattle.bd_wide_rank.proofs.CompareLemmas.{alike, greater}
 use Rattle.bd_wide_rank.proofs.KeyLemmas.{above_double, keys_rise_or, nan_key, nan_worth}
 use Rattle.bd_wide_rank.proofs.OrderLemmas.{codes_rise, same}

@@ -20,6 +20,7 @@ is_less m n e = by_lt_z m n (λ (l : m <ℤ n). l)
     (λ (l : n <ℤ m). absurd (let no : Less ≡ Greater = sym e ∙ greater m n l in cc))
     (λ (g : m ≤ℤ n). let same : m ≡ n = omega (arith, ints) in absurd (let no : Less ≡ Equal = sym e ∙ ap (int_cmp m) (sym same) ∙ alike m in cc)))
 
+-- numbers that compare as equal are equal
 pub is_same : (m n : ℤ) → int_cmp m n ≡ Equal → m ≡ n
 is_same m n e = by_lt_z m n
     (λ (l : m <ℤ n). absurd (let no : Equal ≡ Less = sym e ∙ less m n l in cc))
@@ -36,6 +37,7 @@ on_err (Err e) p = p
 pub same_sym : (vs ws : List ℤ) → HaveSame vs ws → HaveSame ws vs
 same_sym vs ws h = λ w. sym (h w)
 
+-- lists with the same worths as a third one have the same worths
 pub same_trans : (us vs ws : List ℤ) → HaveSame us vs → HaveSame vs ws → HaveSame us ws
 same_trans us vs ws h g = λ w. h w ∙ g w
 
@@ -59,6 +61,7 @@ same_second us vs x = λ w.
     ∙ ap (λ b. is_eq (int_cmp x w) || b) (sym (among_append us vs w))
 
 module _ {E : Type 0} (f : E → ℤ) where
+  -- a permutation has the same worths
   pub same_moved : (xs ys : List E) → IsPermutation xs ys → HaveSame (map f ys) (map f xs)
   same_moved xs ys moved = λ w. sym (list_any-IsPermutation (λ v. is_eq (int_cmp v w)) (map f xs) (map f ys) (IsPermutation-map f xs ys moved))
 
@@ -124,6 +127,7 @@ module _ {E : Type 0} (f : E → ℤ) where
   each_at P (x ∷ xs) zero d each l = each.0
   each_at P (x ∷ xs) (suc i) d each l = each_at P xs i d each.1 (omega arith)
 
+  -- in a row that rises strictly each worth is less than all after it
   pub rises : (xs : List E) → IsStrictlySortedBy (λ x y. int_cmp (f x) (f y)) xs → Rises xs
   unfolding IsStrictlySortedBy
   rises [] up i j d l h = absurd (omega arith)

@@ -8,7 +8,8 @@ use Rattle.std.proofs.lemmas.Bool.{cases_lt}
 use Rattle.std.proofs.lemmas.Bool.Decides.{nat_tests}
 use Rattle.bd_wide_rank.specs.{Rank.AreDistinct, Rank.HaveSame, Rank.is_among, Rank.rank}
 use Rattle.bd_wide_rank.specs.declared.between.Between.{Between}
-use Rattle.bd_wide_rank.specs.inside.{Key.IsKey, Key.IsBetween, Key.key_worth, Rows.between_cmp, Rows.between_worth, Rows.between_worths, Rows.key_worths}
+use Rattle.bd_wide_rank.specs.{Key.key_worth, Key.key_worths, Rows.between_worth, Rows.between_worths}
+use Rattle.bd_wide_rank.specs.inside.{Key.IsKey, Key.IsBetween, Rows.between_cmp}
 use Rattle.bd_wide_rank.proofs.CompareLemmas.{less, greater}
 use Rattle.bd_wide_rank.proofs.KeyLemmas.{above_double, below_double, keys_rise}
 use Rattle.bd_wide_rank.proofs.RankLemmas.{Rises, distinct, distinct_with, found_rank, is_same, not_among, position_rank, rises, same_once}
@@ -91,6 +92,7 @@ apart bs key good = not_among between_worth bs (key_worth key) (λ k d l. differ
         (λ (h : key ≤ b.key). ap is_eq (greater _ _ (above_double b.key (between_worth b) b.between key good h)))
         (cases_lt b.key key)
 
+-- no worth is twice in two rows that rise strictly, one of doubles and one of other numbers
 pub rows_distinct : (keys : List ℕ) → All IsKey keys → IsStrictlyIncreasing keys → (bs : List Between) → IsStrictlySortedBy between_cmp bs
     → AreDistinct (key_worths keys ++ between_worths bs)
 rows_distinct keys are up bs rise = distinct_with key_worth keys (between_worths bs) (keys_row keys are up)

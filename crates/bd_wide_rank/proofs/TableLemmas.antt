@@ -10,7 +10,7 @@ use Rattle.bd_wide_number.specs.Value.{nan}
 use Rattle.bd_wide_rank.specs.{Rank.code, Rank.rank, Table.worths, Worth.value_worth}
 use Rattle.bd_wide_rank.specs.declared.between.Between.{Between}
 use Rattle.bd_wide_rank.specs.declared.table.Table.{Table}
-use Rattle.bd_wide_rank.specs.inside.{Key.key_worth, Rows.between_worth, Rows.between_worths, Rows.key_worths}
+use Rattle.bd_wide_rank.specs.{Key.key_worth, Key.key_worths, Rows.between_worth, Rows.between_worths}
 use Rattle.bd_wide_rank.proofs.RankLemmas.{rank_most}
 
 pub row_length : (keys : List ℕ) (bs : List Between) → length (key_worths keys ++ between_worths bs) ≡ length keys + length bs

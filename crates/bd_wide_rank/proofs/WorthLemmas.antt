@@ -35,6 +35,7 @@ by_less v w e l = e ∙ sym (less (value_worth v) (value_worth w) l)
 by_greater : (v w : Value) → value_cmp v w ≡ Greater → value_worth w <ℤ value_worth v → value_cmp v w ≡ int_cmp (value_worth v) (value_worth w)
 by_greater v w e l = e ∙ sym (greater (value_worth v) (value_worth w) l)
 
+-- values compare as their worths do
 pub worths_compare : (v w : Value) → IsNear v → IsNear w → value_cmp v w ≡ int_cmp (value_worth v) (value_worth w)
 worths_compare nan nan p q = sym (alike (value_worth nan))
 worths_compare nan (infinite true) p q = by_less nan (infinite true) refl (omega (arith, ints))
@@ -76,6 +77,7 @@ size_near : (s : Size) → IsNumberSize s → size_of s < beyond
 unfolding beyond
 size_near s h = within (size_of s) 32768 40000 (below s.number s.twos s.fives 32768 h.few (omega (arith, h.few_twos)) (omega (arith, h.few_fives))) (omega arith)
 
+-- what has a shape is NaN, an infinity, or below them
 pub shape_near : (v : Value) (s : Shape) → IsShapeOf v s → IsNear v
 shape_near nan shapes.NotANumber h = tt
 shape_near (infinite s) (shapes.Infinite t) h = tt

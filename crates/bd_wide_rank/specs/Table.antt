@@ -2,7 +2,7 @@
 use Rattle.std.specs.Prelude.{ℤ, List, ◌++◌}
 use Rattle.bd_wide_rank.specs.declared.numbers.Numbers.{Numbers}
 use Rattle.bd_wide_rank.specs.declared.table.Table.{Table}
-use Rattle.bd_wide_rank.specs.inside.Rows.{key_worths, between_worths}
+use Rattle.bd_wide_rank.specs.{Key.key_worths, Rows.between_worths}
 
 -- the worths of the numbers of a table: first of those that are doubles
 unfoldable pub worths : Table → List ℤ

@@ -1,7 +1,6 @@
 //! The order of any two numbers, by their worths.
 
-ghost use Rattle.std.specs.Prelude.{◌≡◌, ◌↔◌, ◌<ℤ◌, None, Some};
-ghost use Rattle.bd_wide_number.specs.Code.{number_code};
+ghost use Rattle.std.specs.Prelude.{◌≡◌, ◌↔◌, ◌<ℤ◌};
 ghost use Rattle.bd_wide_number.specs.Value.{IsEqual, IsLess, Value, decimal128_value, double_value, finite, infinite, nan, rank, value_of};
 ghost use Rattle.std.specs.Ordering.{int_cmp};
 ghost use Rattle.bd_wide_rank.specs.Worth.{value_worth, worth_of};
@@ -10,7 +9,7 @@ ghost use Rattle.bd_wide_rank.specs.inside.Shape.{IsOfNumber, IsShapeOf};
 ghost use Rattle.bd_wide_rank.specs.inside.Size.{IsNumberSize, size_of};
 
 use crate::size::{Size, compare_sizes};
-use bd_wide_number::{Number, biased_exponent, code_of, coefficient, five_bits};
+use bd_wide_number::{Number, biased_exponent, code_of_double, coefficient, five_bits};
 use std::cmp::Ordering;
 
 /// The order of two numbers, exact by value: NaN first and equal to itself, then -Infinity; -0.0 is equal to 0.
@@ -27,17 +26,7 @@ pub fn compare_numbers(a: Number, b: Number) -> Ordering
 fn compare_doubles(m: u64, n: u64) -> Ordering
     ensures { result ≡ int_cmp (value_worth (double_value m)) (value_worth (double_value n)) }
 {
-    double_key(m).cmp(&double_key(n))
-}
-
-/// The code of a double.
-fn double_key(bits: u64) -> i64
-    ensures { number_code None (double_value bits) ≡ Some result }
-{
-    match code_of(Number::Double(bits), None) {
-        Some(code) => code,
-        None => i64::MIN,
-    }
+    code_of_double(m).cmp(&code_of_double(n))
 }
 
 /// A number by its kind, its sign and its size.

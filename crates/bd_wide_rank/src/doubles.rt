@@ -5,7 +5,8 @@ ghost use Rattle.std.specs.List.{All};
 ghost use Rattle.std.specs.List.Sorted.{IsStrictlyIncreasing};
 ghost use Rattle.std.proofs.Props.{props};
 ghost use Rattle.bd_wide_rank.specs.Rank.{HaveSame, rank};
-ghost use Rattle.bd_wide_rank.specs.inside.Key.{IsKey, key_worth};
+ghost use Rattle.bd_wide_rank.specs.Key.{key_worth};
+ghost use Rattle.bd_wide_rank.specs.inside.Key.{IsKey};
 
 use crate::position::Position;
 use bd_value::NoMemory;
@@ -25,7 +26,7 @@ const LEAST_LIMIT: usize = 1024;
 
 impl Doubles {
     ghost use Rattle.bd_wide_rank.specs.inside.Position.{IsPosition, position_worth};
-    ghost use Rattle.bd_wide_rank.specs.inside.Rows.{key_worths};
+    ghost use Rattle.bd_wide_rank.specs.Key.{key_worths};
 
     /// No doubles.
     pub(crate) fn new(alloc: Global) -> Doubles

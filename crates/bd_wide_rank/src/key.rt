@@ -2,7 +2,8 @@
 
 ghost use Rattle.std.specs.Prelude.{◌≡◌, ℕ, ◌^◌, ◌≤◌, ◌+ℤ◌, pos, ◌+◌};
 ghost use Rattle.bd_wide_number.specs.Value.{infinite_bits};
-ghost use Rattle.bd_wide_rank.specs.inside.Key.{IsKey, key_bits};
+ghost use Rattle.bd_wide_rank.specs.Key.{key_bits};
+ghost use Rattle.bd_wide_rank.specs.inside.Key.{IsKey};
 
 /// The bits of an infinite double.
 const INFINITE: u64 = 0x7FF0_0000_0000_0000;

@@ -22,7 +22,8 @@ const LEAST_LIMIT: usize = 1024;
 
 impl Others {
     ghost use Rattle.bd_wide_rank.specs.inside.Position.{IsPosition, position_worth};
-    ghost use Rattle.bd_wide_rank.specs.inside.Rows.{between_cmp, between_worth, between_worths};
+    ghost use Rattle.bd_wide_rank.specs.Rows.{between_worth, between_worths};
+    ghost use Rattle.bd_wide_rank.specs.inside.Rows.{between_cmp};
 
     /// No numbers.
     pub(crate) fn new(alloc: Global) -> Others

@@ -4,7 +4,8 @@ ghost use Rattle.std.specs.Prelude.{◌≡◌};
 ghost use Rattle.std.specs.Ordering.{int_cmp, is_eq};
 ghost use Rattle.bd_wide_number.specs.Value.{nan};
 ghost use Rattle.bd_wide_rank.specs.Worth.{value_worth, worth_of};
-ghost use Rattle.bd_wide_rank.specs.inside.Key.{IsKey, key_worth};
+ghost use Rattle.bd_wide_rank.specs.Key.{key_worth};
+ghost use Rattle.bd_wide_rank.specs.inside.Key.{IsKey};
 ghost use Rattle.bd_wide_rank.specs.inside.Position.{IsPosition, position_worth};
 
 use crate::between::Between;

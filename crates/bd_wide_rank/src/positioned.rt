@@ -1,7 +1,7 @@
 //! The position of a number beside the doubles.
 
 ghost use Rattle.std.specs.Prelude.{◌≡◌, ◌≤◌, ◌<◌, ◌⊎◌, ◌+◌, ◌-◌, ◌^◌, None};
-ghost use Rattle.bd_wide_number.specs.Code.{number_code};
+ghost use Rattle.bd_wide_number.specs.Code.{double_code};
 ghost use Rattle.bd_wide_number.specs.Value.{infinite_bits, value_of};
 ghost use Rattle.bd_wide_rank.specs.Worth.{worth_of};
 ghost use Rattle.bd_wide_rank.specs.inside.Key.{IsBetween, IsNoDouble};
@@ -20,7 +20,7 @@ pub(crate) fn positioned(number: Number) -> Position
     ensures is { IsPosition result }
     ensures worth { position_worth result ≡ worth_of number }
 {
-    match code_of(number, None) {
+    match code_of(number) {
         Some(code) => Position::Double(key_of(code)),
         None => Position::Between(between(number)),
     }
@@ -28,7 +28,7 @@ pub(crate) fn positioned(number: Number) -> Position
 
 /// A number that no double equals, with its key.
 fn between(number: Number) -> Between
-    requires { number_code None (value_of number) ≡ None }
+    requires { double_code (value_of number) ≡ None }
     ensures { result.number ≡ number }
 {
     let Shape::Finite(negative, size) = parts(number) else {

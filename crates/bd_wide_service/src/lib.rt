@@ -18,6 +18,7 @@
 //! let status = serve(
 //!     alloc,
 //!     "bsonwide",
+//!     false,
 //!     &mut file,
 //!     &mut commands,
 //!     &mut out,
@@ -30,7 +31,7 @@
 //! );
 //! ```
 //!
-//! - `serve`: the command, over any devices: `specs/Serve.antt`.
+//! - `serve`: the command, over any devices; by value over any dump if that is requested: `specs/Serve.antt`.
 //! - `service`: `WideService`, which replies to a line: `specs/ServiceView.antt`, `specs/Reply.antt`.
 //! - `plain`: `PlainService`, the same over a dump without doubles and decimal128, as `bsonfind serve` replies.
 //! - `places`: the field `places` of `getMore`, over either dump: `specs/Places.antt`.

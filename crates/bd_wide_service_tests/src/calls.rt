@@ -1,33 +1,11 @@
 //! Commands by value, and commands that are refused. The expected texts are worked by hand.
 
-use bd_io_device::{MemoryInput, MemoryOutput};
-use bd_wide_service::serve::serve;
-use std::alloc::{AllocError, Global};
+use crate::talk::replies;
+use std::alloc::AllocError;
 
 /// {"a":1.5}, {"a":2}, {"a":NaN}
 const DUMP: &[u8] =
     b"\x10\0\0\0\x01a\0\0\0\0\0\0\0\xf8\x3f\0\x0c\0\0\0\x10a\0\x02\0\0\0\0\x10\0\0\0\x01a\0\0\0\0\0\0\0\xf8\x7f\0";
-
-/// What is printed for commands over this dump.
-fn replies(alloc: Global, commands: &[u8]) -> Result<Vec<u8>, AllocError> {
-    let mut file = MemoryInput::new(DUMP, 50, None);
-    let mut commands = MemoryInput::new(commands, 100, None);
-    let mut buffer = [0; 500];
-    let mut out = MemoryOutput::new(&mut buffer, 500, None);
-    let mut reported = [0; 100];
-    let mut err = MemoryOutput::new(&mut reported, 100, None);
-    serve(
-        alloc,
-        "bsonwide",
-        &mut file,
-        &mut commands,
-        &mut out,
-        &mut err,
-    );
-    let mut printed = Vec::new(alloc);
-    printed.extend_from_slice(out.bytes())?;
-    Ok(printed)
-}
 
 /// A number is equal to one of another type with its value; NaN is equal to NaN alone, and neither below nor above a number.
 #[test]
@@ -54,7 +32,7 @@ fn numbers_by_value(rt: HostRuntime) -> Result<(), AllocError> {
             b"\"matches\":{\"$numberLong\":\"0\"}}\n".as_slice(),
         ),
     ] {
-        let printed = replies(rt.alloc(), command)?;
+        let printed = replies(rt.alloc(), false, DUMP, command)?;
         assert!(rt; printed.as_slice().ends_with(wanted));
     }
     Ok(())
@@ -66,7 +44,7 @@ fn sorted_by_value(rt: HostRuntime) -> Result<(), AllocError> {
     let commands = b"{\"find\":{},\"sort\":{\"a\":1}}\n{\"getMore\":1,\"batch\":3}\n";
     let wanted = b"{\"ok\":true,\"cursor\":{\"$numberLong\":\"1\"}}
 {\"ok\":true,\"documents\":[{\"a\":{\"$numberDouble\":\"NaN\"}},{\"a\":{\"$numberDouble\":\"1.5\"}},{\"a\":{\"$numberInt\":\"2\"}}],\"end\":true,";
-    let printed = replies(rt.alloc(), commands)?;
+    let printed = replies(rt.alloc(), false, DUMP, commands)?;
     assert!(rt; printed.as_slice().starts_with(wanted));
     Ok(())
 }
@@ -79,7 +57,7 @@ fn index_by_value(rt: HostRuntime) -> Result<(), AllocError> {
     let wanted = b"{\"ok\":true,\"entries\":{\"$numberLong\":\"3\"},\"multikey\":false}
 {\"ok\":true,\"cursor\":{\"$numberLong\":\"1\"}}
 {\"ok\":true,\"documents\":[{\"a\":{\"$numberInt\":\"2\"}}],\"end\":true,";
-    let printed = replies(rt.alloc(), commands)?;
+    let printed = replies(rt.alloc(), false, DUMP, commands)?;
     assert!(rt; printed.as_slice().starts_with(wanted));
     Ok(())
 }
@@ -100,7 +78,7 @@ fn refused_in_turn(rt: HostRuntime) -> Result<(), AllocError> {
             b"{\"ok\":false,\"layer\":\"session\",\"number\":{\"$numberInt\":\"7\"},\"text\":\"not a token\"}\n".as_slice(),
         ),
     ] {
-        let printed = replies(rt.alloc(), command)?;
+        let printed = replies(rt.alloc(), false, DUMP, command)?;
         assert!(rt; printed.as_slice() == wanted);
     }
     Ok(())

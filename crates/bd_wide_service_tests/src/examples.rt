@@ -20,6 +20,7 @@ fn serve_by_value(rt: HostRuntime) {
     let status = serve(
         alloc,
         "bsonwide",
+        false,
         &mut file,
         &mut commands,
         &mut out,
@@ -50,6 +51,7 @@ fn documents_of_the_dump(rt: HostRuntime) {
     let status = serve(
         alloc,
         "bsonwide",
+        false,
         &mut file,
         &mut commands,
         &mut out,
@@ -59,7 +61,7 @@ fn documents_of_the_dump(rt: HostRuntime) {
     assert!(rt; out.bytes().starts_with(wanted));
 }
 
-/// Of a dump without doubles and decimal128 a double is no number of a command; some types of numbers are refused over any other.
+/// Over a dump without doubles and decimal128 a double in a command is refused; over any other some types of numbers are.
 #[test]
 fn refused_commands(rt: HostRuntime) {
     let alloc = rt.alloc();
@@ -90,6 +92,7 @@ fn refused_commands(rt: HostRuntime) {
         let status = serve(
             alloc,
             "bsonwide",
+            false,
             &mut file,
             &mut commands,
             &mut out,
@@ -114,6 +117,7 @@ fn faulty_dump(rt: HostRuntime) {
     let status = serve(
         alloc,
         "bsonwide",
+        false,
         &mut file,
         &mut commands,
         &mut out,

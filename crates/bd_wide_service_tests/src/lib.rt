@@ -7,3 +7,7 @@ mod calls;
 mod examples;
 #[cfg(test)]
 mod numbers;
+#[cfg(test)]
+mod plain;
+#[cfg(test)]
+mod talk;

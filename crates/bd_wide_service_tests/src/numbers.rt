@@ -1,8 +1,7 @@
 //! The field `places` of `getMore`. The expected texts are worked by hand.
 
-use bd_io_device::{MemoryInput, MemoryOutput};
-use bd_wide_service::serve::serve;
-use std::alloc::{AllocError, Global};
+use crate::talk::replies;
+use std::alloc::AllocError;
 
 /// {"a":1}, {"a":2}, {"a":1}
 const PLAIN: &[u8] =
@@ -11,38 +10,17 @@ const PLAIN: &[u8] =
 /// {"a":1.5}, {"a":2}
 const WIDE: &[u8] = b"\x10\0\0\0\x01a\0\0\0\0\0\0\0\xf8\x3f\0\x0c\0\0\0\x10a\0\x02\0\0\0\0";
 
-/// What is printed for commands over a dump.
-fn replies(alloc: Global, dump: &[u8], commands: &[u8]) -> Result<Vec<u8>, AllocError> {
-    let mut file = MemoryInput::new(dump, 50, None);
-    let mut commands = MemoryInput::new(commands, 100, None);
-    let mut buffer = [0; 500];
-    let mut out = MemoryOutput::new(&mut buffer, 500, None);
-    let mut reported = [0; 100];
-    let mut err = MemoryOutput::new(&mut reported, 100, None);
-    serve(
-        alloc,
-        "bsonwide",
-        &mut file,
-        &mut commands,
-        &mut out,
-        &mut err,
-    );
-    let mut printed = Vec::new(alloc);
-    printed.extend_from_slice(out.bytes())?;
-    Ok(printed)
-}
-
 /// Numbers are counted from 0, in the order of the answer.
 #[test]
 fn numbers_of_documents(rt: HostRuntime) -> Result<(), AllocError> {
     let ones = b"{\"find\":{\"a\":1}}\n{\"getMore\":1,\"batch\":5,\"places\":true}\n";
-    let printed = replies(rt.alloc(), PLAIN, ones)?;
+    let printed = replies(rt.alloc(), false, PLAIN, ones)?;
     let wanted = b"{\"ok\":true,\"cursor\":{\"$numberLong\":\"1\"}}
 {\"ok\":true,\"places\":[{\"$numberInt\":\"0\"},{\"$numberInt\":\"2\"}],\"end\":true,\"token\":\"";
     assert!(rt; printed.as_slice().starts_with(wanted));
     let largest =
         b"{\"find\":{},\"sort\":{\"a\":-1}}\n{\"places\":true,\"getMore\":1,\"batch\":1}\n";
-    let printed = replies(rt.alloc(), WIDE, largest)?;
+    let printed = replies(rt.alloc(), false, WIDE, largest)?;
     let wanted = b"{\"ok\":true,\"cursor\":{\"$numberLong\":\"1\"}}
 {\"ok\":true,\"places\":[{\"$numberInt\":\"1\"}],\"end\":false,\"token\":\"";
     assert!(rt; printed.as_slice().starts_with(wanted));
@@ -53,11 +31,11 @@ fn numbers_of_documents(rt: HostRuntime) -> Result<(), AllocError> {
 #[test]
 fn documents(rt: HostRuntime) -> Result<(), AllocError> {
     let commands = b"{\"find\":{}}\n{\"getMore\":1,\"batch\":1,\"places\":false}\n";
-    let printed = replies(rt.alloc(), WIDE, commands)?;
+    let printed = replies(rt.alloc(), false, WIDE, commands)?;
     let wanted = b"{\"ok\":true,\"cursor\":{\"$numberLong\":\"1\"}}
 {\"ok\":true,\"documents\":[{\"a\":{\"$numberDouble\":\"1.5\"}}],\"end\":false,";
     assert!(rt; printed.as_slice().starts_with(wanted));
-    let printed = replies(rt.alloc(), PLAIN, commands)?;
+    let printed = replies(rt.alloc(), false, PLAIN, commands)?;
     let wanted = b"{\"ok\":true,\"cursor\":{\"$numberLong\":\"1\"}}
 {\"ok\":true,\"documents\":[{\"a\":{\"$numberInt\":\"1\"}}],\"end\":false,";
     assert!(rt; printed.as_slice().starts_with(wanted));
@@ -89,9 +67,9 @@ fn refused(rt: HostRuntime) -> Result<(), AllocError> {
             b"\"text\":\"no such cursor\"}\n".as_slice(),
         ),
     ] {
-        let printed = replies(rt.alloc(), PLAIN, command)?;
+        let printed = replies(rt.alloc(), false, PLAIN, command)?;
         assert!(rt; printed.as_slice().ends_with(wanted));
-        let printed = replies(rt.alloc(), WIDE, command)?;
+        let printed = replies(rt.alloc(), false, WIDE, command)?;
         assert!(rt; printed.as_slice().ends_with(wanted));
     }
     Ok(())

@@ -1,22 +1,22 @@
-//! The examples of use in the roots of `bd_wide_number`, `bd_wide_text`, `bd_wide_dump`, `bd_wide` and `bd_wide_cli`, and runs of
+//! The examples of use in the roots of `bd_wide_number`, `bd_wide_text`, `bd_wide`, `bd_wide_dump` and `bd_wide_cli`, and runs of
 //! `bd_wide_cli`.
 use bd_bson_check::{Profile, check_bytes};
+use bd_bson_view::ElementType;
 use bd_cli_args::WordsFault;
 use bd_cli_scan::Status;
 use bd_io_device::{MemoryInput, MemoryOutput};
-use bd_wide::{read_order, write_ordered};
+use bd_wide::number_in;
 use bd_wide_cli::{Command, is_serve, report, run, version};
 use bd_wide_dump::{JsonFormat, WideTextBuffer};
-use bd_wide_number::{Number, code_of, whole_of};
+use bd_wide_number::{Number, code_of};
 use bd_wide_text::write_double;
 use std::test::Fail;
 
 #[test]
 fn code(rt: HostRuntime) {
-    let half = Number::Double(0x3fe0_0000_0000_0000);
-    assert!(rt; code_of(half, None) == Some(0x3fe0_0000_0000_0000));
-    assert!(rt; code_of(half, Some(1)) == Some(5));
-    assert!(rt; whole_of(half) == None);
+    assert!(rt; code_of(Number::Double(0x3fe0_0000_0000_0000)) == Some(0x3fe0_0000_0000_0000));
+    assert!(rt; code_of(Number::Whole(1)) == Some(0x3ff0_0000_0000_0000));
+    assert!(rt; code_of(Number::Whole(0x7fff_ffff_ffff_ffff)) == None);
 }
 
 #[test]
@@ -28,18 +28,12 @@ fn double_text(rt: HostRuntime) -> Result<(), Fail> {
     Ok(())
 }
 
+#[tactic(auto, unfolding(bd_wide::specs::Rewritten::least))]
 #[test]
-fn ordered(rt: HostRuntime) -> Result<(), Fail> {
-    let alloc = rt.alloc();
-    // {"d":1.0}, and {"~n":7,"d":1} with two int64
-    let bytes = b"\x10\0\0\0\x01d\0\0\0\0\0\0\0\xf0\x3f\0";
-    let wanted = b"\x1c\0\0\0\x12~n\0\x07\0\0\0\0\0\0\0\x12d\0\x01\0\0\0\0\0\0\0\0";
-    let order = read_order(alloc, &[])?;
-    let mut path = Vec::new(alloc);
-    let mut out = Vec::new(alloc);
-    assert!(rt; write_ordered(&order, 7, bytes, &mut path, &mut out).is_ok());
-    assert!(rt; out.as_slice() == wanted.as_slice());
-    Ok(())
+fn number(rt: HostRuntime) {
+    // the double 1.5
+    let number = number_in(ElementType::Double, b"\0\0\0\0\0\0\xf8\x3f");
+    assert!(rt; matches!(number, Some(Number::Double(0x3ff8_0000_0000_0000))));
 }
 
 #[test]
@@ -109,7 +103,7 @@ fn served(rt: HostRuntime) {
     let mut out = MemoryOutput::new(&mut buffer, 200, None);
     let mut reported = [0; 100];
     let mut err = MemoryOutput::new(&mut reported, 100, None);
-    let command = Command::Serve;
+    let command = Command::Serve { by_value: false };
     let status = run(
         alloc,
         &command,
@@ -126,70 +120,6 @@ fn served(rt: HostRuntime) {
     assert!(rt; is_serve(&command) && !is_serve(&Command::Check));
 }
 
-/// Out of a dump of two documents, the second cut short: each run of `order` that its devices allow.
-#[test]
-fn ordered_dump(rt: HostRuntime) -> Result<(), Fail> {
-    let alloc = rt.alloc();
-    let command = Command::Order(read_order(alloc, &[])?);
-    let numbered = b"\x11\0\0\0\x12~n\0\0\0\0\0\0\0\0\0\0\x05\0";
-    for (size, status, message) in [
-        (100, Status::Done, ""),
-        (19, Status::Done, ""),
-        (18, Status::Failed, "bsonwide: cannot write\n"),
-    ] {
-        let mut input = MemoryInput::new(b"\x05\0\0\0\0\x05\0", 100, None);
-        let mut commands = MemoryInput::new(b"", 1, None);
-        let mut buffer = [0; 100];
-        let mut out = MemoryOutput::new(&mut buffer[..size], 100, None);
-        let mut reported = [0; 100];
-        let mut err = MemoryOutput::new(&mut reported, 100, None);
-        let ran = run(
-            alloc,
-            &command,
-            &mut input,
-            &mut commands,
-            &mut out,
-            &mut err,
-        );
-        assert!(rt; ran == status);
-        assert!(rt; numbered.starts_with(out.bytes()) && out.bytes().len() == size.min(19));
-        assert!(rt; err.bytes() == message.as_bytes());
-    }
-    Ok(())
-}
-
-/// Of {"d":1.5} and {"e":2.5} the first double has a code at the first path, and the other none at the second one.
-#[test]
-fn refused_number(rt: HostRuntime) -> Result<(), Fail> {
-    let alloc = rt.alloc();
-    let bytes = b"\x10\0\0\0\x01d\0\0\0\0\0\0\0\xf8\x3f\0\x10\0\0\0\x01e\0\0\0\0\0\0\0\x04\x40\0";
-    let words = [
-        String::from_str(alloc, "d")?,
-        String::from_str(alloc, "e*1")?,
-    ];
-    let command = Command::Order(read_order(alloc, &words)?);
-    let mut input = MemoryInput::new(bytes, 100, None);
-    let mut commands = MemoryInput::new(b"", 1, None);
-    let mut buffer = [0; 100];
-    let mut out = MemoryOutput::new(&mut buffer, 100, None);
-    let mut reported = [0; 100];
-    let mut err = MemoryOutput::new(&mut reported, 100, None);
-    let status = run(
-        alloc,
-        &command,
-        &mut input,
-        &mut commands,
-        &mut out,
-        &mut err,
-    );
-    assert!(rt; status == Status::Failed);
-    let coded = b"\x1c\0\0\0\x12~n\0\0\0\0\0\0\0\0\0\x12d\0\0\0\0\0\0\0\xf8\x3f\0";
-    assert!(rt; out.bytes() == coded.as_slice());
-    let message = "bsonwide: document 1, byte 20, path \"e\": not a whole number of 64 bits\n";
-    assert!(rt; err.bytes() == message.as_bytes());
-    Ok(())
-}
-
 /// The output for `--help` and for `--version`.
 #[test]
 fn reports(rt: HostRuntime) {
@@ -197,8 +127,7 @@ fn reports(rt: HostRuntime) {
        bsonwide check FILE
        bsonwide pack FILE
        bsonwide find FILE [--query Q] [--sort S] [--skip N] [--limit N] [--batch N] [--index PATH] [--after TOKEN] [--bson | --count]
-       bsonwide serve FILE
-       bsonwide order FILE [PATH..]
+       bsonwide serve FILE [--byValue]
 ";
     let mut buffer = [0; 500];
     let mut out = MemoryOutput::new(&mut buffer, 500, None);

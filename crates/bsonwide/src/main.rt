@@ -5,10 +5,12 @@ use bd_cli_args::{WideOrder, WordsFault, parse_wide_words};
 use bd_cli_main::Program;
 use bd_cli_scan::Status;
 use bd_io_device::{Input, Output};
-use bd_wide::read_order;
-use bd_wide_cli::{Command, PROGRAM, block_size, is_serve, read_format, version};
+use bd_wide_cli::{Command, PROGRAM, is_serve, read_format, version};
 use std::alloc::Global;
 use std::process::ExitCode;
+
+/// How many bytes of its file a command requests from the system at once.
+const BLOCK: usize = 65_536;
 
 /// The program.
 struct Bsonwide;
@@ -37,10 +39,7 @@ impl Program for Bsonwide {
                 options,
                 form,
             } => Ok((Command::Find(options, form), file)),
-            WideOrder::Serve { file } => Ok((Command::Serve, file)),
-            WideOrder::Order { file, paths } => {
-                Ok((Command::Order(read_order(alloc, &paths)?), file))
-            }
+            WideOrder::Serve { file, by_value } => Ok((Command::Serve { by_value }, file)),
         }
     }
 
@@ -48,8 +47,8 @@ impl Program for Bsonwide {
         &command.1
     }
 
-    fn block(&self, command: &Self::Command) -> usize {
-        block_size(&command.0)
+    fn block(&self, _command: &Self::Command) -> usize {
+        BLOCK
     }
 
     fn serves(&self, command: &Self::Command) -> bool {

@@ -3,19 +3,13 @@ use Rattle.std.specs.Prelude.{◌≡◌, ◌<◌, ◌≤◌, ℕ, ℤ, List, ◌
 use Rattle.bd_value.specs.{Limits.longest_document, View.scalar_kind}
 use Rattle.bd_value.specs.declared.node.Kind.{Kind}
 use Rattle.bd_value.specs.declared.node.Kind.TheVariants as kinds
-use Rattle.bd_value.specs.Tree.{Scalar, int64, Tree, leaf, doc, array, code_scope, Items, no_items, item}
-use Rattle.bd_value.specs.Tree.{Fields, no_fields, field}
+use Rattle.bd_value.specs.Tree.{Scalar, int64, Tree, leaf, doc, array, code_scope, Fields, field}
 use Rattle.bd_bson_view.specs.declared.raw_parts.ElementType.{ElementType}
 use Rattle.bd_bson_view.specs.declared.raw_parts.ElementType.TheVariants.{Kept, Double, Decimal128}
 use Rattle.bd_bson_view.specs.Spelling.{NumberKind, number_type, number_size, framed, scoped, IsText, IsScalar, AreFieldsBy, valued}
 use Rattle.bd_bson_view.specs.Sizes.{size_of, HasBytesOf}
 use Rattle.bd_wide_dump.specs.declared.format.JsonFormat.{JsonFormat}
-use Rattle.bd_wide_dump.specs.{Raw.raw, WideText.IsKindText, WideText.IsScalarText, WideText.IsTextOf}
-
--- the values of fields, in order
-abbrev pub values_in : Fields → Items
-values_in no_fields = no_items
-values_in (field n t fs) = item t (values_in fs)
+use Rattle.bd_wide_dump.specs.{Raw.raw, Values.values_in, WideText.IsKindText, WideText.IsScalarText, WideText.IsTextOf}
 
 -- The bytes begin with elements of a document, or of an array, and the zero after them; other bytes may follow.
 pub record HasElements (bytes : List ℕ) : Type 0 where

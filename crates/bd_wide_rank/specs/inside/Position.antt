@@ -3,7 +3,8 @@ use Rattle.std.specs.Prelude.{ℤ}
 use Rattle.bd_wide_rank.specs.Worth.{worth_of}
 use Rattle.bd_wide_rank.specs.declared.position.Position.{Position}
 use Rattle.bd_wide_rank.specs.declared.position.Position.TheVariants as positions
-use Rattle.bd_wide_rank.specs.inside.Key.{IsKey, key_worth}
+use Rattle.bd_wide_rank.specs.Key.{key_worth}
+use Rattle.bd_wide_rank.specs.inside.Key.{IsKey}
 
 -- the worth of a number by its position
 abbrev pub position_worth : Position → ℤ

@@ -1,6 +1,6 @@
 use Rattle.std.proofs.Common.{◌≡◌, ◌-◌, ◌∙◌, length, arith, rules, ap, sym, drop, ◌++◌, Some, refl, true, false, List, ℕ}
 use Rattle.bd_bson_view.specs.Spelling.{number}
-use Rattle.bd_wide.specs.Rewritten.{path_of, IsBody, IsScoped, IsNested}
+use Rattle.bd_wide.specs.Rewritten.{IsBody, IsScoped, IsNested}
 use Rattle.bd_wide.specs.inside.Rewritten.{holder_least}
 use Rattle.bd_bson_view.specs.declared.raw_parts.Holder.TheVariants as holders
 use Rattle.std.proofs.Common.{length-drop}
@@ -24,35 +24,24 @@ body-seal-requires g t c =
 pub body-returns-clause-ok : goal.body-returns-clause-ok
 body-returns-clause-ok g t c =
     let at : c.len-at.result ≡ length c.args.out.now.items = search rules in
-    rewrites.body_ok (g.W.NumberWriter.is_written c.args.writer.now) (IsNested (g.W.NumberWriter.is_written c.args.writer.now) c.args.depth_left) (path_of c.args.in_array c.args.path.now.items) c.args.value.now c.args.out.now.items _ _ c.extend_from_slice.new.self.items c.seal.new.out.items
+    rewrites.body_ok (g.W.NumberWriter.is_written c.args.writer.now) (IsNested (g.W.NumberWriter.is_written c.args.writer.now) c.args.depth_left) c.args.value.now c.args.out.now.items _ _ c.extend_from_slice.new.self.items c.seal.new.out.items
     (drop 4 c.args.value.now) c.inner_and_last.result.0.now c.inner_and_last.result.1.now c.len-at.result
     c.requires refl c.inner_and_last.ensures.inner c.inner_and_last.ensures.last at
     c.in_ok-write_number.ensures.ok c.in_ok-elements.ensures.ok c.in_ok-extend_from_slice.ensures.items c.seal.ensures
 
 pub element-returns-clause-ok : goal.element-returns-clause-ok
 element-returns-clause-ok g t c =
-    let path_in = path_of c.args.in_array c.args.path.now.items c.args.head.now in
-    rewrites.as_part (g.W.NumberWriter.is_written c.args.writer.now) (IsNested (g.W.NumberWriter.is_written c.args.writer.now) c.args.depth_left) path_in c.args.typed c.args.part c.args.head.now c.args.value.now c.args.out.now.items c.entered.new.out.items (sym c.requires.part)
-    (rewrites.part_added (g.W.NumberWriter.is_written c.args.writer.now) (IsNested (g.W.NumberWriter.is_written c.args.writer.now) c.args.depth_left) c.args.part c.enter.new.path.items path_in c.args.typed c.args.head.now c.args.value.now c.args.out.now.items c.entered.new.out.items c.in_ok-enter.ensures c.in_ok-entered.ensures.ok)
-
-pub element-returns-clause-path : goal.element-returns-clause-path
-element-returns-clause-path g t c =
-    rewrites.path_back c.args.in_array c.args.path.now.items c.args.head.now c.enter.new.path.items c.entered.new.path.items c.truncate.new.self.items c.len-before.result
-    c.in_ok-enter.ensures (search rules) c.in_ok-entered.ensures.path c.truncate.ensures.items
-
-pub entered-returns-clause-ok : goal.entered-returns-clause-ok
-entered-returns-clause-ok g t c =
-    rewrites.values_added c.nested.result (g.W.NumberWriter.is_written c.args.writer.now) (IsNested (g.W.NumberWriter.is_written c.args.writer.now) c.args.depth_left) c.args.part c.in-Values.holder c.extend_from_slice.new.self.items c.args.path.now.items c.args.typed c.args.head.now c.args.value.now c.args.out.now.items c.extend_from_slice-2.new.self.items c.nested.new.out.items
-    c.in-Values.is (c.in_ok-extend_from_slice.ensures.items ∙ ap (λ x. c.args.path.now.items ++ x) c.separator.ensures) c.in_ok-extend_from_slice-2.ensures.items c.nested.ensures.ok
+    rewrites.values_added c.nested.result (g.W.NumberWriter.is_written c.args.writer.now) (IsNested (g.W.NumberWriter.is_written c.args.writer.now) c.args.depth_left) c.args.part c.in-Values.holder c.args.typed c.args.head.now c.args.value.now c.args.out.now.items c.extend_from_slice.new.self.items c.nested.new.out.items
+    c.in-Values.is c.in_ok-extend_from_slice.ensures.items c.nested.ensures.ok
 
 pub elements-loop-typed-preserved : goal.elements-loop-typed-preserved
 elements-loop-typed-preserved g t c =
     let l = c.loop-typed in
     let s = c.in-Some in
-    let on = runs.run_goes_on (g.W.NumberWriter.is_written c.args.writer.now) (IsNested (g.W.NumberWriter.is_written c.args.writer.now) c.args.depth_left) (path_of c.args.in_array c.args.path.now.items) c.args.bytes.now c.args.out.now.items l.out.items l.run.now l.rest.now c.split_at.result.0.now c.split_at.result.1.now
+    let on = runs.run_goes_on (g.W.NumberWriter.is_written c.args.writer.now) (IsNested (g.W.NumberWriter.is_written c.args.writer.now) c.args.depth_left) c.args.bytes.now c.args.out.now.items l.out.items l.run.now l.rest.now c.split_at.result.0.now c.split_at.result.1.now
     c.split_at-in-Some.result.0.now c.split_at-in-Some.result.1.now s.typed s.k s.n l.invariant.comes l.invariant.run_is s.ensures.gives c.in_default-looked_into.ensures
     c.split_at.ensures.front c.split_at.ensures.back c.split_at-in-Some.ensures.front c.split_at-in-Some.ensures.back in
-    record { comes = on.0; run_is = on.1; path_is = l.invariant.path_is; begun = l.invariant.begun }
+    record { comes = on.0; run_is = on.1; begun = l.invariant.begun }
 
 pub elements-loop-typed-preserved-in_ok-element : goal.elements-loop-typed-preserved-in_ok-element
 elements-loop-typed-preserved-in_ok-element g t c =
@@ -63,14 +52,13 @@ elements-loop-typed-preserved-in_ok-element g t c =
     let begun = c.put_run.new.out.items in
     let written = c.element.new.out.items in
     record {
-      comes = runs.comes_anew (g.W.NumberWriter.is_written c.args.writer.now) (IsNested (g.W.NumberWriter.is_written c.args.writer.now) c.args.depth_left) (path_of c.args.in_array c.args.path.now.items) c.args.bytes.now after c.args.out.now.items written
-          (rewrites.stepped (g.W.NumberWriter.is_written c.args.writer.now) (IsNested (g.W.NumberWriter.is_written c.args.writer.now) c.args.depth_left) (path_of c.args.in_array c.args.path.now.items) c.args.bytes.now c.args.out.now.items begun written l.rest.now head c.split_at.result.1.now
-          c.split_at-in-Some.result.0.now after (path_of c.args.in_array l.path.items head) s.typed s.k s.n
-          (runs.comes_flushed (g.W.NumberWriter.is_written c.args.writer.now) (IsNested (g.W.NumberWriter.is_written c.args.writer.now) c.args.depth_left) (path_of c.args.in_array c.args.path.now.items) c.args.bytes.now l.rest.now c.args.out.now.items l.out.items begun l.run.now l.invariant.comes c.in_ok-put_run.ensures.ok) s.ensures.gives
+      comes = runs.comes_anew (g.W.NumberWriter.is_written c.args.writer.now) (IsNested (g.W.NumberWriter.is_written c.args.writer.now) c.args.depth_left) c.args.bytes.now after c.args.out.now.items written
+          (rewrites.stepped (g.W.NumberWriter.is_written c.args.writer.now) (IsNested (g.W.NumberWriter.is_written c.args.writer.now) c.args.depth_left) c.args.bytes.now c.args.out.now.items begun written l.rest.now head c.split_at.result.1.now
+          c.split_at-in-Some.result.0.now after s.typed s.k s.n
+          (runs.comes_flushed (g.W.NumberWriter.is_written c.args.writer.now) (IsNested (g.W.NumberWriter.is_written c.args.writer.now) c.args.depth_left) c.args.bytes.now l.rest.now c.args.out.now.items l.out.items begun l.run.now l.invariant.comes c.in_ok-put_run.ensures.ok) s.ensures.gives
           c.split_at.ensures.front c.split_at.ensures.back c.split_at-in-Some.ensures.front c.split_at-in-Some.ensures.back
-          (ap (λ p. path_of c.args.in_array p head) l.invariant.path_is) c.in_ok-element.ensures.ok);
+          (rewrites.as_part (g.W.NumberWriter.is_written c.args.writer.now) (IsNested (g.W.NumberWriter.is_written c.args.writer.now) c.args.depth_left) s.typed c.in-Some-looked_into.part head c.split_at-in-Some.result.0.now begun written c.in-Some-looked_into.ensures c.in_ok-element.ensures.ok));
       run_is = runs.run_begins after;
-      path_is = c.in_ok-element.ensures.path ∙ l.invariant.path_is;
       begun =
           let added = c.in_ok-element.ensures.ok in
           prefix_more c.args.out.now.items begun added.0 written (prefix_more c.args.out.now.items l.out.items (runs.before l.run.now l.rest.now) begun l.invariant.begun c.in_ok-put_run.ensures.ok) added.2;
@@ -81,11 +69,11 @@ elements-returns-clause-ok g t c =
     let l = c.loop-typed in
     let out = l.out.items ++ runs.before l.run.now l.rest.now in
     rewrites.ok_on c.extend_from_slice.result _ _ (rewrites.ok_if c.extend_from_slice.result _ _ _ c.extend_from_slice.ensures.items) (λ written.
-    rewrites.all_written (g.W.NumberWriter.is_written c.args.writer.now) (IsNested (g.W.NumberWriter.is_written c.args.writer.now) c.args.depth_left) (path_of c.args.in_array c.args.path.now.items) c.args.bytes.now c.args.out.now.items out c.extend_from_slice.new.self.items l.rest.now
+    rewrites.all_written (g.W.NumberWriter.is_written c.args.writer.now) (IsNested (g.W.NumberWriter.is_written c.args.writer.now) c.args.depth_left) c.args.bytes.now c.args.out.now.items out c.extend_from_slice.new.self.items l.rest.now
     l.invariant.comes c.in_default.ensures.gives (runs.run_written l.out.items l.run.now l.rest.now c.extend_from_slice.new.self.items l.invariant.run_is written))
 
-pub entered-nested-requires : goal.entered-nested-requires
-entered-nested-requires g t c κs within =
+pub element-nested-requires : goal.element-nested-requires
+element-nested-requires g t c κs within =
     let e = c.decreases in
     let least = rewrites.holder_takes_least c.args.typed c.in-Values.holder (c.requires.part ∙ ap Some c.in-Values.is) in
     let v = c.requires.value in
@@ -109,21 +97,21 @@ pub with_scope-returns-clause-ok : goal.with_scope-returns-clause-ok
 with_scope-returns-clause-ok g t c =
     let at : c.len-start.result ≡ length c.args.out.now.items = search rules in
     let f = c.requires.inside in
-    rewrites.scoped_ok (IsNested (g.W.NumberWriter.is_written c.args.writer.now) c.args.depth_left holders.Document c.args.path.now.items) c.args.value.now c.args.out.now.items c.write_code.new.out.items c.nested.new.out.items c.seal.new.out.items
+    rewrites.scoped_ok (IsNested (g.W.NumberWriter.is_written c.args.writer.now) c.args.depth_left holders.Document) c.args.value.now c.args.out.now.items c.write_code.new.out.items c.nested.new.out.items c.seal.new.out.items
     c.split_at.result.1.now c.len-start.result c.args.at (sym c.requires.offset) f.0 f.1
     c.split_at.ensures.back at c.in_ok-write_code.ensures.ok c.in_ok-nested.ensures.ok c.seal.ensures
 
 pub nested-returns-in-Document-clause-ok : goal.nested-returns-in-Document-clause-ok
 nested-returns-in-Document-clause-ok g t c =
-    rewrites.nested_ok c.body.result (g.W.NumberWriter.is_written c.args.writer.now) c.args.depth_left c.args.holder holders.Document c.args.path.now.items c.args.value.now c.args.out.now.items c.body.new.out.items
-    (IsBody (g.W.NumberWriter.is_written c.args.writer.now) (IsNested (g.W.NumberWriter.is_written c.args.writer.now) (c.args.depth_left - 1)) (path_of false c.args.path.now.items) c.args.value.now) c.in-Document.is (λ x. (rewrites.below (g.W.NumberWriter.is_written c.args.writer.now) c.args.depth_left c.args.path.now.items c.args.value.now x (omega arith)).0) c.body.ensures.ok
+    rewrites.nested_ok c.body.result (g.W.NumberWriter.is_written c.args.writer.now) c.args.depth_left c.args.holder holders.Document c.args.value.now c.args.out.now.items c.body.new.out.items
+    (IsBody (g.W.NumberWriter.is_written c.args.writer.now) (IsNested (g.W.NumberWriter.is_written c.args.writer.now) (c.args.depth_left - 1)) c.args.value.now) c.in-Document.is (λ x. (rewrites.below (g.W.NumberWriter.is_written c.args.writer.now) c.args.depth_left c.args.value.now x (omega arith)).0) c.body.ensures.ok
 
 pub nested-returns-in-Array-clause-ok : goal.nested-returns-in-Array-clause-ok
 nested-returns-in-Array-clause-ok g t c =
-    rewrites.nested_ok c.body-in-Array.result (g.W.NumberWriter.is_written c.args.writer.now) c.args.depth_left c.args.holder holders.Array c.args.path.now.items c.args.value.now c.args.out.now.items c.body-in-Array.new.out.items
-    (IsBody (g.W.NumberWriter.is_written c.args.writer.now) (IsNested (g.W.NumberWriter.is_written c.args.writer.now) (c.args.depth_left - 1)) (path_of true c.args.path.now.items) c.args.value.now) c.in-Array.is (λ x. (rewrites.below (g.W.NumberWriter.is_written c.args.writer.now) c.args.depth_left c.args.path.now.items c.args.value.now x (omega arith)).1) c.body-in-Array.ensures.ok
+    rewrites.nested_ok c.body-in-Array.result (g.W.NumberWriter.is_written c.args.writer.now) c.args.depth_left c.args.holder holders.Array c.args.value.now c.args.out.now.items c.body-in-Array.new.out.items
+    (IsBody (g.W.NumberWriter.is_written c.args.writer.now) (IsNested (g.W.NumberWriter.is_written c.args.writer.now) (c.args.depth_left - 1)) c.args.value.now) c.in-Array.is (λ x. (rewrites.below (g.W.NumberWriter.is_written c.args.writer.now) c.args.depth_left c.args.value.now x (omega arith)).1) c.body-in-Array.ensures.ok
 
 pub nested-returns-in-CodeScope-clause-ok : goal.nested-returns-in-CodeScope-clause-ok
 nested-returns-in-CodeScope-clause-ok g t c =
-    rewrites.nested_ok c.scoped.result (g.W.NumberWriter.is_written c.args.writer.now) c.args.depth_left c.args.holder holders.CodeScope c.args.path.now.items c.args.value.now c.args.out.now.items c.scoped.new.out.items
-    (IsScoped (IsNested (g.W.NumberWriter.is_written c.args.writer.now) (c.args.depth_left - 1) holders.Document c.args.path.now.items) c.args.value.now) c.in-CodeScope.is (λ x. (rewrites.below (g.W.NumberWriter.is_written c.args.writer.now) c.args.depth_left c.args.path.now.items c.args.value.now x (omega arith)).2) c.scoped.ensures.ok
+    rewrites.nested_ok c.scoped.result (g.W.NumberWriter.is_written c.args.writer.now) c.args.depth_left c.args.holder holders.CodeScope c.args.value.now c.args.out.now.items c.scoped.new.out.items
+    (IsScoped (IsNested (g.W.NumberWriter.is_written c.args.writer.now) (c.args.depth_left - 1) holders.Document) c.args.value.now) c.in-CodeScope.is (λ x. (rewrites.below (g.W.NumberWriter.is_written c.args.writer.now) c.args.depth_left c.args.value.now x (omega arith)).2) c.scoped.ensures.ok

@@ -1,37 +1,33 @@
 use Rattle.std.proofs.Common.{◌≡◌, ◌+◌, ◌*◌, ◌++◌, length}
 use Rattle.std.specs.Io.{StartsWith}
-use Rattle.bd_wide.specs.Rewritten.{IsNested, path_of}
+use Rattle.bd_wide.specs.Rewritten.{IsNested}
 use Rattle.bd_wide.proofs.RunLemmas.{before}
 use Rattle.bd_wide.proofs.RewriteLemmas.{Comes}
 use Rattle.bd_wide.proofs.rewrite.+rewriting.Given as goal
 
 abbrev pub decreases-nested : goal.decreases-nested
-decreases-nested g l = 5 * l.depth_left
-
-abbrev pub decreases-entered : goal.decreases-entered
-decreases-entered g l = 5 * l.depth_left + 1
+decreases-nested g l = 4 * l.depth_left
 
 abbrev pub decreases-element : goal.decreases-element
-decreases-element g l = 5 * l.depth_left + 2
+decreases-element g l = 4 * l.depth_left + 1
 
 abbrev pub decreases-elements : goal.decreases-elements
-decreases-elements g l = 5 * l.depth_left + 3
+decreases-elements g l = 4 * l.depth_left + 2
 
 abbrev pub decreases-body : goal.decreases-body
-decreases-body g l = 5 * l.depth_left + 4
+decreases-body g l = 4 * l.depth_left + 3
 
 abbrev pub decreases-scoped : goal.decreases-scoped
-decreases-scoped g l = 5 * l.depth_left + 4
+decreases-scoped g l = 4 * l.depth_left + 3
 
 abbrev pub decreases-with_scope : goal.decreases-with_scope
-decreases-with_scope g l = 5 * l.depth_left + 1
+decreases-with_scope g l = 4 * l.depth_left + 1
 
 abbrev pub invariant-elements-loop-typed : goal.invariant-elements-loop-typed
 invariant-elements-loop-typed g l = record {
   comes : Comes (g.W.NumberWriter.is_written l.writer)
-      (IsNested (g.W.NumberWriter.is_written l.writer) l.depth_left) (path_of l.in_array l.fn.path.items) l.bytes l.rest l.fn.out.items (l.out.items ++ before l.run l.rest);
+      (IsNested (g.W.NumberWriter.is_written l.writer) l.depth_left) l.bytes l.rest l.fn.out.items (l.out.items ++ before l.run l.rest);
   run_is : l.run ≡ before l.run l.rest ++ l.rest;
-  path_is : l.path.items ≡ l.fn.path.items;
   begun : StartsWith l.out.items l.fn.out.items;
 }
 

@@ -1,7 +1,7 @@
 use Rattle.std.proofs.Common.{subst, sym, ap, ◌∙◌}
 use Rattle.bd_bson_check.specs.declared.profile.Profile.TheVariants.{All}
 use Rattle.bd_wide_copy.specs.Dump.{AreDocuments}
-use Rattle.bd_wide_copy.specs.inside.Starts.{have_no_fault}
+use Rattle.bd_wide_copy.specs.Starts.{have_no_fault}
 use Rattle.bd_wide_copy.proofs.StartsLemmas.{sound_documents}
 use Rattle.bd_wide_copy.proofs.reading.read_wide_dump.Goals as goal
 

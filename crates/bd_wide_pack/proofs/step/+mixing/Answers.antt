@@ -16,12 +16,12 @@ elements-loop-name-init t c = record {
 
 pub elements-returns-in_default-next : goal.elements-returns-in_default-next
 elements-returns-in_default-next t c =
-    m.unlike_ended _ _ _ _ _ _ _ _ _ c.loop-name.invariant.goes _ _ c.in-Some.ensures.some c.in_default-next.ensures.none
+    m.unlike_ended _ _ _ _ _ _ _ _ _ _ c.loop-name.invariant.goes _ _ c.in-Some.ensures.some c.in_default-next.ensures.none
 
 pub elements-returns-then-names_differ : goal.elements-returns-then-names_differ
 elements-returns-then-names_differ t c =
     let d = c.names_differ.ensures.differ c.if-names_differ.true in
-    m.unlike_names _ _ _ _ _ _ _ _ _ c.loop-name.invariant.goes _ _ _ _ _ _ c.in-Some.ensures.some c.in-Some-next.ensures.some d.0 d.1
+    m.unlike_names _ _ _ _ _ _ _ _ _ _ c.loop-name.invariant.goes _ _ _ _ _ _ c.in-Some.ensures.some c.in-Some-next.ensures.some d.0 d.1
 
 pub elements-value-requires : goal.elements-value-requires
 elements-value-requires t c =
@@ -33,7 +33,7 @@ elements-value-requires t c =
 pub elements-returns-in_default-2 : goal.elements-returns-in_default-2
 elements-returns-in_default-2 t c =
     let unlike = rw c.in_default-2.is at c.in_ok-more.ensures in
-    m.unlike_values _ _ _ _ _ _ _ _ _ c.loop-name.invariant.goes _ _ _ _ _ _ c.in-Some.ensures.some c.in-Some-next.ensures.some unlike
+    m.unlike_values _ _ _ _ _ _ _ _ _ _ c.loop-name.invariant.goes _ _ _ _ _ _ c.in-Some.ensures.some c.in-Some-next.ensures.some unlike
 
 pub elements-loop-name-preserved : goal.elements-loop-name-preserved
 elements-loop-name-preserved t c =
@@ -41,8 +41,8 @@ elements-loop-name-preserved t c =
     let size = ap (λ (d : Doc). fields_size (fields_of d)) c.in-Some.ensures.some in
     let smaller = c.loop-name.invariant.smaller in
     record {
-      goes = m.goes_next _ _ _ _ _ _ _ _ _ _ _ _ _ _ _ _ _ c.loop-name.invariant.goes c.in-Some.ensures.some c.in-Some-next.ensures.some
-          (m.first_name c.loop-name.whole_rest.remaining _ _ _ c.in-Some.ensures.some) (c.names_differ.ensures.same c.if-names_differ.false) mixed;
+      goes = m.goes_next _ _ _ _ _ _ _ _ _ _ _ _ _ _ _ _ _ _ _ c.loop-name.invariant.goes c.in-Some.ensures.some c.in-Some-next.ensures.some
+          (m.first_name c.loop-name.whole_rest.remaining _ _ _ c.in-Some.ensures.some) (c.names_differ.ensures.same c.if-names_differ.false) c.name_of-under.ensures mixed;
       wholes_source = c.in-Some.ensures.same_source.1 ∙ c.loop-name.invariant.wholes_source;
       texts_source = c.in-Some-next.ensures.same_source.1 ∙ c.loop-name.invariant.texts_source;
       smaller = omega arith;
@@ -50,10 +50,10 @@ elements-loop-name-preserved t c =
 
 pub elements-returns-in-Some-next-2 : goal.elements-returns-in-Some-next-2
 elements-returns-in-Some-next-2 t c =
-    m.unlike_more _ _ _ _ _ _ _ _ _ c.loop-name.invariant.goes _ _ c.in_default.ensures.none c.in-Some-next-2.ensures.some
+    m.unlike_more _ _ _ _ _ _ _ _ _ _ c.loop-name.invariant.goes _ _ c.in_default.ensures.none c.in-Some-next-2.ensures.some
 
 pub elements-returns-in-None : goal.elements-returns-in-None
-elements-returns-in-None t c = m.goes_end _ _ _ _ _ _ _ _ _ c.loop-name.invariant.goes c.in_default.ensures.none c.in-None.ensures.none
+elements-returns-in-None t c = m.goes_end _ _ _ _ _ _ _ _ _ _ c.loop-name.invariant.goes c.in_default.ensures.none c.in-None.ensures.none
 
 pub document-returns-in_default : goal.document-returns-in_default
 document-returns-in_default t c = m.other_document (value_tree c.args.whole) (value_tree c.args.text) c.args.numbers.now c.requires.1.1.2 (λ e. c.in_default.not-Doc (c.kind.ensures ∙ e))

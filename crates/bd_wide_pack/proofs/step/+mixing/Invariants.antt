@@ -24,7 +24,7 @@ decreases-body l = 4 * fields_size (fields_of (remaining_pairs l.wholes)) + 3
 
 abbrev pub invariant-elements-loop-name : goal.invariant-elements-loop-name
 invariant-elements-loop-name l = record {
-  goes : Goes l.named (remaining_pairs l.fn.wholes) (remaining_pairs l.fn.texts) l.fn.numbers (remaining_pairs l.whole_rest) (remaining_pairs l.text_rest) l.rest l.fn.out.items l.out.items;
+  goes : Goes l.named (remaining_pairs l.fn.wholes) (remaining_pairs l.fn.texts) l.fn.numbers l.index (remaining_pairs l.whole_rest) (remaining_pairs l.text_rest) l.rest l.fn.out.items l.out.items;
   wholes_source : elements_source l.whole_rest ≡ l.sources.wholes.now;
   texts_source : elements_source l.text_rest ≡ l.sources.texts.now;
   smaller : fields_size (fields_of (remaining_pairs l.whole_rest)) ≤ fields_size (fields_of (remaining_pairs l.fn.wholes));

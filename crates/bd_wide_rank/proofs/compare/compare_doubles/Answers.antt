@@ -7,8 +7,8 @@ use Rattle.bd_wide_rank.proofs.compare.compare_doubles.Goals as goal
 
 pub returns : goal.returns
 returns c =
-    let first : SFits w64 c.double_key.result = search rules in
-    let second : SFits w64 c.double_key-2.result = search rules in
-    c.cmp.ensures ∙ ap₂ int_cmp (to_z-of_z w64 c.double_key.result first) (to_z-of_z w64 c.double_key-2.result second)
-    ∙ codes_compare _ _ _ _ c.double_key.ensures c.double_key-2.ensures
+    let first : SFits w64 c.code_of_double.result = search rules in
+    let second : SFits w64 c.code_of_double-2.result = search rules in
+    c.cmp.ensures ∙ ap₂ int_cmp (to_z-of_z w64 c.code_of_double.result first) (to_z-of_z w64 c.code_of_double-2.result second)
+    ∙ codes_compare _ _ _ _ c.code_of_double.ensures c.code_of_double-2.ensures
     ∙ worths_compare _ _ (double_near c.args.m) (double_near c.args.n)

@@ -1,7 +1,8 @@
 use Rattle.std.proofs.Common.{◌≡◌, Less, ap, sym, ◌∙◌, arith, refl, inr, ℤ}
 use Rattle.std.specs.Ordering.{int_cmp}
 use Rattle.bd_wide_rank.specs.Worth.{worth_of}
-use Rattle.bd_wide_rank.specs.inside.Key.{IsKey, key_worth}
+use Rattle.bd_wide_rank.specs.Key.{key_worth}
+use Rattle.bd_wide_rank.specs.inside.Key.{IsKey}
 use Rattle.bd_wide_rank.proofs.KeyLemmas.{above_or, double_worth, inner_key}
 use Rattle.bd_wide_rank.proofs.RankLemmas.{is_less}
 use Rattle.bd_wide_rank.proofs.positioned.narrowed.Goals as goal

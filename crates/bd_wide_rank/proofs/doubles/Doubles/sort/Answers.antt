@@ -1,8 +1,8 @@
 use Rattle.std.proofs.Common.{eqb}
 use Rattle.std.proofs.lemmas.List.Filters.{dedup_is}
 use Rattle.std.proofs.lemmas.Map.Keys.{IsStrictlyIncreasing-dedup}
-use Rattle.bd_wide_rank.specs.inside.Key.{key_worth}
-use Rattle.bd_wide_rank.specs.inside.Rows.{key_worths}
+use Rattle.bd_wide_rank.specs.Key.{key_worth}
+use Rattle.bd_wide_rank.specs.Key.{key_worths}
 use Rattle.bd_wide_rank.proofs.RankLemmas.{same_moved, same_trans}
 use Rattle.bd_wide_rank.proofs.RowLemmas.{keys_once}
 use Rattle.bd_wide_rank.proofs.doubles.Doubles.sort.Goals as goal

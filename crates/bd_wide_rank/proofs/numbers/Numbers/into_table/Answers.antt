@@ -1,6 +1,7 @@
 use Rattle.std.proofs.Common.{◌≡◌, ◌+◌, ◌++◌, arith, length, vec_len}
 use Rattle.bd_wide_rank.specs.Table.{collected, worths}
-use Rattle.bd_wide_rank.specs.inside.Rows.{between_worths, key_worths}
+use Rattle.bd_wide_rank.specs.Key.{key_worths}
+use Rattle.bd_wide_rank.specs.Rows.{between_worths}
 use Rattle.bd_wide_rank.proofs.RankLemmas.{same_both}
 use Rattle.bd_wide_rank.proofs.RowLemmas.{rows_distinct}
 use Rattle.bd_wide_rank.proofs.TableLemmas.{row_length}

@@ -2,7 +2,8 @@ use Rattle.std.proofs.Common.{◌∷◌, ◌++◌, ℤ, refl, subst}
 use Rattle.bd_wide_rank.specs.Rank.{HaveSame}
 use Rattle.bd_wide_rank.specs.Table.{collected}
 use Rattle.bd_wide_rank.specs.Worth.{worth_of}
-use Rattle.bd_wide_rank.specs.inside.Rows.{between_worths, key_worths}
+use Rattle.bd_wide_rank.specs.Key.{key_worths}
+use Rattle.bd_wide_rank.specs.Rows.{between_worths}
 use Rattle.bd_wide_rank.proofs.RankLemmas.{on_err, same_both, same_second, same_trans}
 use Rattle.bd_wide_rank.proofs.numbers.Numbers.push.Goals as goal
 

@@ -5,7 +5,7 @@ use Rattle.std.proofs.lemmas.Fn.{always_returns_same}
 use Rattle.std.proofs.lemmas.List.Sorted.{searchable_from_sorted}
 use Rattle.bd_wide_rank.specs.declared.between.Between.{Between}
 use Rattle.bd_wide_rank.specs.inside.Position.{position_worth}
-use Rattle.bd_wide_rank.specs.inside.Rows.{between_worth}
+use Rattle.bd_wide_rank.specs.Rows.{between_worth}
 use Rattle.bd_wide_rank.proofs.RankLemmas.{found_rank, is_same, position_rank, rises, sorted}
 use Rattle.bd_wide_rank.proofs.others.Others.rank.Goals as goal
 

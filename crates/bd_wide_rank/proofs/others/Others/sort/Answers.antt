@@ -5,7 +5,8 @@ use Rattle.std.proofs.lemmas.Fn.{always_returns_same, dedup_same}
 use Rattle.std.proofs.lemmas.List.Sorted.{ranks_by}
 use Rattle.std.proofs.lemmas.List.Kept.{IsStrictlySortedBy-dedup}
 use Rattle.bd_wide_rank.specs.declared.between.Between.{Between}
-use Rattle.bd_wide_rank.specs.inside.Rows.{between_cmp, between_worth, between_worths}
+use Rattle.bd_wide_rank.specs.Rows.{between_worth, between_worths}
+use Rattle.bd_wide_rank.specs.inside.Rows.{between_cmp}
 use Rattle.bd_wide_rank.proofs.RankLemmas.{same_moved, same_trans}
 use Rattle.bd_wide_rank.proofs.RowLemmas.{are_alike, numbers_once}
 use Rattle.bd_wide_rank.proofs.others.Others.sort.Goals as goal

@@ -1,7 +1,7 @@
 use Rattle.std.proofs.Common.{◌≤◌, ◌++◌, length, map, sym, ap, ◌∙◌}
 use Rattle.std.proofs.lemmas.List.{take_all}
 use Rattle.bd_wide_rank.specs.{Rank.code, Table.worths}
-use Rattle.bd_wide_rank.specs.inside.{Key.key_worth, Rows.between_worth}
+use Rattle.bd_wide_rank.specs.{Key.key_worth, Rows.between_worth}
 use Rattle.bd_wide_rank.proofs.TableLemmas.{map_worths}
 use Rattle.bd_wide_rank.proofs.table.Table.codes.Goals as goal
 

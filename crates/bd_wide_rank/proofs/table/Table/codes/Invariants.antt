@@ -1,6 +1,6 @@
 use Rattle.std.proofs.Common.{◌≡◌, ◌++◌, map, take}
 use Rattle.bd_wide_rank.specs.{Rank.code, Table.worths}
-use Rattle.bd_wide_rank.specs.inside.{Key.key_worth, Rows.between_worth}
+use Rattle.bd_wide_rank.specs.{Key.key_worth, Rows.between_worth}
 use Rattle.bd_wide_rank.proofs.table.Table.codes.Given as goal
 
 abbrev pub invariant-loop-key : goal.invariant-loop-key

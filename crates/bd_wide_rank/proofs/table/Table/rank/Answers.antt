@@ -1,7 +1,8 @@
 use Rattle.std.proofs.Common.{◌<◌, ◌+◌, ◌^◌, arith, sym, ◌∙◌, ap₂}
 use Rattle.bd_wide_rank.specs.Table.{worths}
 use Rattle.bd_wide_rank.specs.inside.Position.{position_worth}
-use Rattle.bd_wide_rank.specs.inside.Rows.{between_worths, key_worths}
+use Rattle.bd_wide_rank.specs.Key.{key_worths}
+use Rattle.bd_wide_rank.specs.Rows.{between_worths}
 use Rattle.bd_wide_rank.proofs.RankLemmas.{rank_append}
 use Rattle.bd_wide_rank.proofs.TableLemmas.{ranks_few}
 use Rattle.bd_wide_rank.proofs.table.Table.rank.Goals as goal
