@@ -28,7 +28,6 @@ if TYPE_CHECKING:
         find_one as find_one,
     )
     from ._ask.frames import to_dicts as to_dicts, to_pandas as to_pandas
-    from ._ask.kept import prepare as prepare
     from ._ask.merge import Check as Check, check_parts as check_parts, count_parts as count_parts, find_parts as find_parts
     from ._ask.sessions import Cursor as Cursor, Session as Session
     from ._ask.values import ObjectId as ObjectId
@@ -62,7 +61,6 @@ _MODULES = {
     "_ask.aio": ["AsyncCursor", "AsyncSession"],
     "_ask.answers": ["Answer", "count_documents", "distinct", "explain", "find", "find_one"],
     "_ask.frames": ["to_dicts", "to_pandas"],
-    "_ask.kept": ["prepare"],
     "_ask.merge": ["Check", "check_parts", "count_parts", "find_parts"],
     "_ask.sessions": ["Cursor", "Session"],
     "_ask.values": ["ObjectId"],
@@ -107,5 +105,5 @@ __all__ = [
     "CommandError", "Cursor", "CursorStateError", "DumpError", "Fault", "FileError", "FileState", "LeftOut", "ObjectId",
     "OtherProcessError", "Part", "PartError", "ProgramError", "Report", "Salvaged", "Session", "SessionEndedError", "TimedOutError",
     "UnpackError", "Unpacked", "audit", "check_parts", "count_documents", "count_parts", "distinct", "explain", "find", "find_one",
-    "find_parts", "plan", "prepare", "salvage", "to_dicts", "to_pandas", "unpack",
+    "find_parts", "plan", "salvage", "to_dicts", "to_pandas", "unpack",
 ]  # fmt: skip

@@ -101,10 +101,11 @@ def environment() -> dict:
     return {**os.environ, "PYTHONPATH": str(PACKAGE)}
 
 
-def run_package(*words: str, stdout: object = subprocess.PIPE) -> "subprocess.CompletedProcess[str]":
-    """A run of `python3 -m bsonfind`."""
+def run_package(*words: str, stdout: object = subprocess.PIPE, input: str = "", **how: object) -> "subprocess.CompletedProcess[str]":
+    """A run of `python3 -m bsonfind`, with this standard input."""
     command = [sys.executable, "-m", "bsonfind", "--program", PROGRAM, *words]
-    return subprocess.run(command, env=environment(), stdout=stdout, stderr=subprocess.PIPE, text=True, timeout=PATIENCE)
+    how = {"env": environment(), "stdout": stdout, "stderr": subprocess.PIPE, "text": True, "timeout": PATIENCE, "input": input, **how}
+    return subprocess.run(command, **how)
 
 
 def packed(lines: Iterable[str]) -> bytes:

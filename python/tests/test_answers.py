@@ -76,7 +76,7 @@ class Answers(Room):
             for decode in ("dict", "plain"):
                 with self.subTest(text), self.assertRaises(ProgramError) as raised:
                     find_one(PEOPLE, decode=decode, program=program)
-                self.assertIn("not bsonfind", str(raised.exception))
+                self.assertIn("not bsonwide", str(raised.exception))
 
     def test_answer_that_is_left(self) -> None:
         program = self.wide('echo $$ >"$ROOM/pid"\nprintf \'{"a":1}\\n\'\nexec sleep 600')

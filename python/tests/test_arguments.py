@@ -29,7 +29,6 @@ from bsonfind import (
     find_one,
     find_parts,
     plan,
-    prepare,
     salvage,
     to_dicts,
     to_pandas,
@@ -50,7 +49,6 @@ BAD: Dict[str, List[Any]] = {
     **dict.fromkeys(("page", "batch_size", "jobs"), [-1, "1", 1.5, 1 << 63]),
     **dict.fromkeys(("workers", "most"), [0, *NUMBERS]),
     **dict.fromkeys(("say", "progress", "map"), [5]),
-    "copy": [5, "a\0b", "\ud800"],
     "max_faults": NUMBERS,
     "paths": [5, None, [], [5], "a\0b"],
     "expect": [5, "a\0b"],
@@ -97,7 +95,6 @@ class Refusals(Room):
         yield audit, lambda paths=PEOPLE, **it: audit(paths, **{**program, **it})
         files = {"path": PEOPLE, "good": self.room / "good", "bad": self.room / "bad"}
         yield salvage, lambda **it: salvage(**{**files, **program, **it})
-        yield prepare, lambda **it: prepare(**{"path": PEOPLE, "copy": self.room / "copy", **program, **it})
         yield unpack, lambda **it: unpack(**{"archive": ROOT / "examples/backup.archive", "directory": self.room / "out", **it})
         yield ObjectId, ObjectId
         yield to_dicts, to_dicts

@@ -115,7 +115,7 @@ class AsyncSessions(Room, unittest.IsolatedAsyncioTestCase):
 
     async def test_cancelled_task(self) -> None:
         """The program ends, and later calls say why."""
-        session = await AsyncSession(PEOPLE, self.script(STUCK)).open()
+        session = await AsyncSession(PEOPLE, self.wide(STUCK)).open()
         task = asyncio.ensure_future(session.count_documents())
         await asyncio.sleep(0.3)
         task.cancel()
@@ -130,14 +130,14 @@ class AsyncSessions(Room, unittest.IsolatedAsyncioTestCase):
     async def test_timeouts_and_cancel(self) -> None:
         begun = time.monotonic()
         with self.assertRaises(TimedOutError):
-            await AsyncSession(PEOPLE, self.script("exec sleep 600"), timeout=0.3).open()
-        session = await AsyncSession(PEOPLE, self.script(STUCK), timeout=0.5).open()
+            await AsyncSession(PEOPLE, self.wide("exec sleep 600"), timeout=0.3).open()
+        session = await AsyncSession(PEOPLE, self.wide(STUCK), timeout=0.5).open()
         self.addAsyncCleanup(session.close)
         with self.assertRaises(TimedOutError):
             await session.count_documents()
         with self.assertRaisesRegex(SessionEndedError, "no answer within 0.5 seconds"):
             await session.count_documents()
-        session = await AsyncSession(PEOPLE, self.script(STUCK)).open()
+        session = await AsyncSession(PEOPLE, self.wide(STUCK)).open()
         self.addAsyncCleanup(session.close)
         asyncio.get_running_loop().call_later(0.3, session.cancel)
         with self.assertRaises(CancelledError):

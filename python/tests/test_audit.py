@@ -92,7 +92,7 @@ class Audits(Room):
                 threading.Thread(target=pipe.write_bytes, args=[data], daemon=True).start()
             lines = self.audit(str(path), status=1)
             # What can be read of the document again is that of a file.
-            value = " 02" if path.name == "a.bson" else ""
+            value = "" if path is pipe else " 02"
             found = [
                 f'document 502, byte {start + 7}, path "d": bad boolean{value}',
                 f'document 504, byte {start + len(DAMAGED + DECIMAL) + 18}, path "b": bad boolean{value}',

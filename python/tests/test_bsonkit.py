@@ -40,6 +40,8 @@ class Packing(Room):
     def test_bad_and_missing(self) -> None:
         bad = run_package("pack", str(self.file(b'{"a":1}\n{"a":{"$numberDouble":"abc"}}\n', "lines")))
         self.assertEqual((bad.returncode, bad.stderr), (1, "bsonwide: line 2, byte 5: bad wrapper\n1 objects packed\n"))
+        named = os.path.join(os.curdir, "-no-such-file")
+        self.assertEqual(run_package("pack", "--", "-no-such-file").stderr, f"bsonwide: cannot open {named}\n")
         missing = run_package("pack", "no-such-file")
         self.assertEqual((missing.returncode, missing.stdout, missing.stderr), (1, "", "bsonwide: cannot open no-such-file\n"))
         self.assertEqual(run_package("pack").returncode, 2)
@@ -102,7 +104,7 @@ class Arguments(Room):
         for page, pattern in (
             ("man/bsonkit.1", r"\.(?:It|Op) ?Fl -([\w-]+)|^\.Fl -([\w-]+)|Fl -json \| -(quiet)"),
             ("completions/bsonkit.bash", r"(?<=[ '])--([\w-]+)"),
-            ("completions/_bsonkit", r"'\*?--([\w-]+)\["),
+            ("completions/_bsonkit", r"'(?:\(-[\w-]+\))?\*?--([\w-]+)\["),
             ("completions/bsonkit.fish", r"^complete .* -l ([\w-]+)"),
         ):
             text = (ROOT / page).read_text(encoding="utf-8")
@@ -117,6 +119,8 @@ class Arguments(Room):
         lines = run_package("audit", str(path)).stdout.splitlines()
         shown = f"{self.room}/a\\x0a\\x1b[2Kb\\x09c.bson"
         self.assertEqual([it for it in lines if it.startswith(shown)], [f"{shown}: {FAULT} 02", f"{shown}: 501 documents, 1 faulty"])
+        path = self.file(PEOPLE.read_bytes(), "a\u009b2Kb.bson")
+        self.assertTrue(run_package("audit", str(path)).stdout.startswith(f"{self.room}/a\\x9b2Kb.bson: "))
         good = self.file(PEOPLE.read_bytes(), "a\tb.bson")
         run = run_package("query", str(good), "--query", '{"_id":7}')
         self.assertEqual(run.stdout.split("\t"), [f"{self.room}/a\\x09b.bson", PEOPLE_LINES[7].decode() + "\n"])
@@ -220,7 +224,7 @@ class Programs(Room):
         ids = str(self.file(b"7\n", "ids"))
         return [
             (("check", plain), 1), (("check", packed), 1), (("dump", plain), 1), (("dump", packed, packed), 1), (("find", wide), 1),
-            (("find", plain, "--bson"), 1), (("prepare", plain, f"{self.room}/copy"), 1), (("audit", bad, plain), 2),
+            (("find", plain, "--bson"), 1), (("serve", plain), 1), (("serve", packed), 1), (("audit", bad, plain), 2),
             (("salvage", plain, "--good", f"{self.room}/g", "--bad", f"{self.room}/b"), 2),
             (("salvage", f"{self.room}/backup", "--out", f"{self.room}/out"), 2), (("compare", plain, plain), 2),
             (("query", plain, wide, "--query", '{"d":1.5}'), 2), (("info", wide), 2), (("grep", "ada", plain), 2), (("ids", wide, "--ids", ids), 2), (("ids", plain, "--ids", ids, "--bson"), 2),

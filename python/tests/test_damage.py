@@ -1,10 +1,10 @@
-"""Tests of questions over damaged dumps with doubles, which are asked by a copy: each is refused, also where the damage is elsewhere."""
+"""Tests of questions over damaged dumps with doubles: each is refused, also where the damage is elsewhere."""
 
 import random
 from concurrent.futures import ThreadPoolExecutor
 from typing import Iterator
 
-from bsonfind import DumpError, Session, check_parts, find, plan, prepare
+from bsonfind import DumpError, Session, check_parts, find, plan
 from bsonfind._ask.requests import Request
 from bsonfind._backup.backups import Dump
 from bsonfind._backup.query import query_dumps
@@ -74,7 +74,6 @@ class Damage(Room):
             lambda: list(find(path, filter, decode="bson", program=PROGRAM)),
             by_query,
             by_session,
-            lambda: prepare(path, f"{path}.copy", program=PROGRAM),
         ):
             with self.assertRaises(DumpError, msg=data.hex()) as raised:
                 call()

@@ -3,7 +3,6 @@
 import gzip
 import json
 import os
-import re
 import struct
 import subprocess
 import sys
@@ -17,6 +16,7 @@ from bsonfind import (
     CommandError,
     DumpError,
     PartError,
+    ProgramError,
     count_documents,
     count_parts,
     distinct,
@@ -111,28 +111,29 @@ class Goods(Dumps):
         self.assertEqual(self.ids({"a": 5}), [3])
         self.assertEqual(self.ids({"a": {"$type": "object"}}), [2])
         self.assertEqual(self.ids({"a": 0.25}, sort={"a": 1}), [1])
-        with mock.patch("bsonfind._dumps.originals._PIECE", 7):
+        with mock.patch("bsonfind._ask.lines._PIECE", 7):
             self.assertEqual(self.ids({}, sort={"a": -1}, skip=1), [5 if it == 5 else it for it in self.ids({}, sort={"a": -1})][1:])
             answer = find(self.path, page=4, decode="bson", program=PROGRAM)
             self.assertEqual(list(answer), documents[:4])
             self.assertEqual(list(find(self.path, after=answer.token, decode="bson", program=PROGRAM)), documents[4:])
 
     def test_tokens(self) -> None:
-        """A page leads on to the next one; a token of documents as they are is for those alone."""
+        """A page leads on to the next one, whatever documents are given as."""
         filter, sort = {"price": {"$gte": 9}, "_id": {"$lt": 99.5}}, [("price", -1)]
-        for decode, other in (("bytes", "bson"), ("bson", "bytes")):
-            token, found = None, []
+        for forms, wanted in ((("bytes",), None), (("bson",), GOODS), (("bson", "bytes"), None)):
+            token, found, turn = None, [], 0
             while True:
-                answer = find(self.path, filter, sort=sort, page=1, after=token, decode=decode, program=PROGRAM)
+                answer = find(self.path, filter, sort=sort, page=1, after=token, decode=forms[turn % len(forms)], program=PROGRAM)
                 found += answer
-                token = answer.token
+                token, turn = answer.token, turn + 1
                 if answer.end:
                     break
-            self.assertEqual(found, list(find(self.path, filter, sort=sort, decode=decode, program=PROGRAM)))
-            for how in ({"filter": {"price": {"$gte": 9}}}, {"filter": filter, "decode": other}):
-                with self.assertRaises(CommandError) as raised:
-                    list(find(self.path, sort=sort, after=token, program=PROGRAM, **{"decode": decode, **how}))
-                self.assertEqual(raised.exception.text, "token of another dump or request")
+            self.assertEqual(len(found), 4)
+            if wanted:
+                self.assertEqual([wanted.index(it) for it in found], [3, 2, 0, 1])
+            with self.assertRaises(CommandError) as raised:
+                list(find(self.path, {"price": {"$gte": 9}}, sort=sort, after=token, decode=forms[0], program=PROGRAM))
+            self.assertEqual(raised.exception.text, "token of another dump or request")
 
     def test_compressed_dumps_and_pipes(self) -> None:
         pipe = self.room / "pipe"
@@ -148,8 +149,9 @@ class Goods(Dumps):
         """A question is one run of `bsonwide find`, with the words of the caller, and of a plain file by its descriptor."""
         for ask, words in (
             (lambda program: list(find(self.path, {"price": 9.5}, limit=2, program=program)), '--query={"price":9.5} --sort={} --skip=0 --limit=2'),
-            (lambda program: count_documents(self.path, {"a": {"$gt": 1}}, program=program), '--query={"a":{"$gt":1}} --sort={} --skip=0 --limit=0'),
+            (lambda program: count_documents(self.path, {"a": {"$gt": 1}}, program=program), '--query={"a":{"$gt":1}} --sort={} --skip=0 --limit=0 --count'),
             (lambda program: list(find(PEOPLE, {}, index="age", program=program)), "--query={} --sort={} --skip=0 --limit=0 --index=age"),
+            (lambda program: find_one(PEOPLE, sort={"a": 1}, decode="bson", program=program), '--query={} --sort={"a":1} --skip=0 --limit=1 --bson'),
         ):
             ask(self.counting())
             self.assertEqual(self.starts(), [f"bsonwide find - {words}"])
@@ -186,15 +188,30 @@ class Goods(Dumps):
 
     def test_long_queries(self) -> None:
         """The longest that an argument has, and one that goes to a session."""
-        for size in (LONGEST_ARGUMENT, LONGEST_ARGUMENT + 1):
-            filter = {"price": 9.5, "$or": [{"x": "a" * (size - 40)}, {"_id": 0}]}
+        for size, word in ((LONGEST_ARGUMENT, "bsonwide find - --query"), (LONGEST_ARGUMENT + 1, "bsonwide serve /dev/fd/")):
+            filter = {"_id": {"$lt": 1}, "$or": [{"x": "a" * (size - 44)}, {"_id": 0}]}
             self.assertEqual(len(json.dumps(filter, separators=(",", ":"))), size)
             for decode, wanted in (("bytes", FIRST.encode()), ("bson", GOODS[0])):
-                self.assertEqual(list(find(self.path, filter, decode=decode, program=PROGRAM)), [wanted])
+                self.assertEqual(list(find(self.path, filter, decode=decode, program=self.counting())), [wanted])
+                self.assertTrue(self.starts()[0].startswith(word))
+                self.assertEqual(len(self.starts()), 1)
+                (self.room / "starts").unlink()
             self.assertEqual(count_documents(self.path, filter, program=PROGRAM), 1)
             parts = plan(self.path, 100)
-            self.assertEqual(find_parts(parts, filter, decode="bytes", program=PROGRAM), [FIRST.encode()])
+            self.assertEqual(find_parts(parts, filter, decode="bytes", workers=2, program=PROGRAM), [FIRST.encode()])
             self.assertEqual(count_parts(parts, filter, program=PROGRAM), 1)
+
+    def test_pages_of_long_queries(self) -> None:
+        """They go on to the next one, by an index too, of a pipe and of a packed dump."""
+        filter, path = {"_id": {"$in": [*range(6), "a" * LONGEST_ARGUMENT]}}, self.file(gzip.compress(b"".join(GOODS)), "goods.bson.gz")
+        for dump, index in ((self.path, None), (self.path, "_id"), (path, "price")):
+            first = find(dump, filter, sort={"_id": -1}, page=4, index=index, decode="bson", program=PROGRAM)
+            self.assertEqual(([GOODS.index(it) for it in first], first.end), ([5, 4, 3, 2], False))
+            rest = find(dump, filter, sort={"_id": -1}, after=first.token, index=index, decode="bson", program=PROGRAM)
+            self.assertEqual(([GOODS.index(it) for it in rest], rest.end), ([1, 0], True))
+        with self.assertRaises(CommandError) as raised:
+            list(find(self.path, {"x": "é" * LONGEST_ARGUMENT, "y": {"$oid": "x"}}, program=PROGRAM))
+        self.assertEqual(raised.exception.args, ("json", 4, "bad wrapper", 6 * LONGEST_ARGUMENT + 12))
 
 
 class Prices(Dumps):
@@ -272,18 +289,14 @@ class Prices(Dumps):
             (self.room / "starts").unlink()
 
     def test_longest_document(self) -> None:
-        """It is answered; only as BSON there is no byte left for its number."""
-        empty = len(document(whole("_id", 1), b"\x05b\0" + bytes(5)))
-        for size, is_bson in ((16_793_600 - 6, True), (16_793_600, False)):
-            data = (size - empty).to_bytes(4, "little") + b"\0" + bytes(size - empty)
-            longest = document(whole("_id", 1), b"\x05b\0" + data)
-            path = self.file(PRICES[0] + longest, "long.bson")
-            self.assertEqual(count_documents(path, {"_id": 1.0}, program=PROGRAM), 1)
-            if is_bson:
-                self.assertEqual(find_one(path, {"_id": 1.0}, decode="bson", program=PROGRAM), longest)
-            else:
-                with self.assertRaisesRegex(DumpError, f"document 1, byte {len(PRICES[0])}: too long to be asked for as BSON"):
-                    find_one(path, {"_id": 0}, decode="bson", program=PROGRAM)
+        """It is answered, as a line and as it is."""
+        size, empty = 16_793_600, len(document(whole("_id", 1), b"\x05b\0" + bytes(5)))
+        longest = document(whole("_id", 1), b"\x05b\0" + (size - empty).to_bytes(4, "little") + b"\0" + bytes(size - empty))
+        self.assertEqual(len(longest), size)
+        path = self.file(PRICES[0] + longest + PRICES[2], "long.bson")
+        self.assertEqual(count_documents(path, {"_id": 1.0}, program=PROGRAM), 1)
+        self.assertEqual(find_one(path, {"_id": 1.0}, decode="bson", program=PROGRAM), longest)
+        self.assertEqual(list(find(path, {"price": {"$gt": 4.5}}, decode="bson", program=PROGRAM)), [PRICES[0], PRICES[2]])
 
 
 class Damage(Room):
@@ -346,6 +359,17 @@ class Damage(Room):
                 with self.assertRaisesRegex(BsonfindError, text):
                     ask()
 
+    def test_runs_that_print_something_else(self) -> None:
+        """Such as fewer documents than they report, or a part of one: a status of 0 is no proof."""
+        path, told = self.file(b"".join(GOODS)), "echo '6 documents, end, token x' >&2"
+        for decode, one, rest in (("bytes", "{}\\n", "{"), ("bson", "\\5\\0\\0\\0\\0", "\\5\\0")):
+            program = self.wide(f"printf '{one * 5}{rest}'\n{told}")
+            with self.assertRaisesRegex(ProgramError, "find printed 5 documents in place of 6"):
+                list(find(path, decode=decode, program=program))
+        for printed in ("", "5", "6 6", "x"):
+            with self.assertRaisesRegex(ProgramError, "find printed b'.*' in place of 6"):
+                count_documents(path, program=self.wide(f"echo '{printed}'\n{told}"))
+
 
 class Commands(Dumps):
     def run_find(self, *words: object, stdin: bytes = b"") -> tuple:
@@ -367,18 +391,33 @@ class Commands(Dumps):
             status, lines, told = self.run_find(word, "--query", '{"price":{"$gt":9.25}}', "--after", told.split()[-1], stdin=stdin)
             self.assertEqual((status, len(lines.splitlines())), (0, 2))
             self.assertRegex(told, r"^2 documents, end, token \S{60}\n$")
-        self.assertEqual(self.run_find(self.path, "--bson")[:2], (0, b"".join(GOODS)))
-        status, data, told = self.run_find(self.path, "--bson", "--query", '{"price":{"$gt":9.25}}', "--batch=1", "--sort", '{"price":-1}')
-        self.assertEqual((status, data), (0, GOODS[3]))
-        self.assertRegex(told, r"^1 documents, more, token \S{60}\n$")
+        goods, gone = self.file(gzip.compress(b"".join(GOODS)), "goods.bson.gz"), (0, b"", "0 documents, end\n")
+        for word in (self.path, goods):
+            self.assertEqual(self.run_find(word, "--bson")[:2], (0, b"".join(GOODS)))
+            status, data, told = self.run_find(word, "--bson", "--query", '{"price":{"$gt":9.25}}', "--batch=1", "--sort", '{"price":-1}')
+            self.assertEqual((status, data), (0, GOODS[3]))
+            self.assertRegex(told, r"^1 documents, more, token \S{60}\n$")
+            for query, wanted in (('{"price":{"$gt":9.25}}', b"3\n"), ('{"price":{"$gt":99.5}}', b"0\n")):
+                status, data, told = self.run_find("--count", word, "--query", query)
+                self.assertEqual((status, data), (0, wanted))
+                self.assertRegex(told, rf"^{wanted[:1].decode()} documents, end(, token \S{{60}})?\n$")
+            self.assertEqual(self.run_find(word, "--count", "--skip=1", "--limit", "2")[:2], (0, b"2\n"))
+            self.assertEqual(self.run_find(word, "--query", '{"price":99.5}', "--bson"), gone)
         self.assertEqual(self.run_find(self.path, "--query", '{"price":1.5}', "--batch", "0"), (0, b"", "0 documents, more\n"))
+
+    def test_options_that_do_not_go_together(self) -> None:
+        for words in (["--bson", "--count"], ["--count", "--batch=2"]):
+            status, data, error = self.run_find(self.path, *words)
+            self.assertEqual((status, data), (2, b""))
+            self.assertRegex(error, "not allowed with argument|--count does not go with --batch")
 
     def test_one_program(self) -> None:
         """It becomes the program itself for a plain file; `bsonfind` is never started."""
         program, query = self.counting(), '{"price":9.5}'
         for words, started in (
             (["find", self.path, "--query", query, "--limit", "1"], f"bsonwide find - --query {query} --limit 1"),
-            (["find", "--sort={}", self.path], "bsonwide find - --sort={}"),
+            (["find", "--sort={}", "--bson", self.path], "bsonwide find - --sort={} --bson"),
+            (["find", "--count", self.path, "--skip", "2"], "bsonwide find - --count --skip 2"),
             (["query", self.path, "--query", query], f"bsonwide find - --query={query} --sort={{}} --skip=0 --limit=0"),
         ):
             command = [sys.executable, "-m", "bsonfind", "--program", program, *map(str, words)]
@@ -398,17 +437,38 @@ class Commands(Dumps):
             (("--index", "a."), "index: empty component"),
             (("--after", "x", "--query", '{"price":1.5}'), "token: not a token"),
         ):
-            self.assertEqual(self.run_find(self.path, *words), (1, b"", f"bsonwide: {told}\n"))
-            self.assertEqual(self.run_find(self.path, "--bson", *words), (1, b"", f"bsonkit: {told}\n"))
+            for form in ([], ["--bson"], ["--count"]):
+                self.assertEqual(self.run_find(self.path, *form, *words), (1, b"", f"bsonwide: {told}\n"))
+                self.assertEqual(self.run_find("-", *form, *words, stdin=b"".join(GOODS)), (1, b"", f"bsonkit: {told}\n"))
 
     def test_files_that_are_too_large(self) -> None:
-        """They are refused at once, by their size."""
-        path = self.file(b"".join(GOODS))
-        os.truncate(path, (1 << 32) + 5)
-        for words in ([], ["--bson"]):
-            status, data, told = self.run_find(path, *words)
-            self.assertEqual((status, data), (1, b""))
-            self.assertRegex(told, re.escape(f"bsonkit: cannot read {path}: it has more than 4294967295 bytes") + ".*by parts\n$")
+        """They are asked by parts, here of 100 bytes, in all forms, sorted, skipped and cut; a fault has its place in the whole."""
+        data = b"".join(PRICES * 3)
+        path, most = self.file(data), len(data) - 1
+        code = f"import sys\nimport bsonfind._command.finding as it, bsonfind._command.program as its\nit.LARGEST_INPUT = its._LARGEST = {most}\n"
+        code += f"it.MOST = 100\nfrom bsonfind.__main__ import main\nsys.exit(main(['--program', {PROGRAM!r}, 'find', *sys.argv[1:]]))"
+
+        def large(*words: object, stdin: object = None) -> tuple:
+            run = subprocess.run([sys.executable, "-c", code, *map(str, words)], env=environment(), stdin=stdin, capture_output=True, timeout=PATIENCE)
+            return run.returncode, run.stdout, run.stderr.decode()
+
+        for words in (
+            ["--query", '{"price":{"$gt":4.99}}', "--sort", '{"price":-1}'], ["--query", '{"_id":{"$ne":1}}', "--sort", '{"price":1}', "--skip=4", "--limit=3"],
+            ["--query", '{"_id":{"$lt":4}}', "--skip", "7"], ["--limit=1", "--index", "price"], ["--query", '{"_id":99}'],
+        ):  # fmt: skip
+            for form in ([], ["--bson"], ["--count"]):
+                status, found, told = self.run_find(path, *words, *form)
+                self.assertEqual(large(path, *words, *form), (status, found, told.partition(", token")[0].rstrip("\n") + "\n"), words)
+        with open(path, "rb") as file:
+            self.assertEqual(large("-", "--count", "--limit=1", stdin=file), (0, b"1\n", "1 documents, end\n"))
+        bad = self.file(data + DAMAGED, "bad.bson")
+        for words, told in (
+            ([path, "--batch=2"], f"cannot read {path}: it has more than {most} bytes, and is asked by parts: leave --batch, --after and long queries out"),
+            ([path], f"cannot read {path}: it has more than {most} bytes, and so do the documents that are found: ask for fewer"),
+            ([path, "--query", '{"price":{"$x":1}}'], 'query: place "price.$x": unknown operator'),
+            ([bad, "--query", '{"_id":1}'], f'document 18, byte {len(data) + 7}, path "d": bad boolean'),
+        ):
+            self.assertEqual(large(*words), (1, b"", f"bsonkit: {told}\n"))
 
     def test_collection_of_an_archive(self) -> None:
         data = b"".join(GOODS)

@@ -22,16 +22,11 @@ READERS = {
 }  # fmt: skip
 # Each place that calls one of them, and what it does with what was printed. None of them decides what is a fault, or what matches.
 PLACES = {
-    "_ask/copies.Codes.raise_level": "makes an error of a message",
-    "_ask/copies.Ordering.is_last": "takes a run that says nothing for one that refused nothing",
-    "_ask/copies.connect_copy": "takes a run that says nothing for one that refused nothing",
     "_ask/decoding.batches_by": "cuts a batch into its documents",
-    "_ask/lines.Lines._by_number": "takes the numbers of documents out of lines",
-    "_ask/lines.Lines._read": "passes lines on, and the end and the token",
-    "_ask/lines.Lines.count": "takes the count",
-    "_ask/lines.counted": "reads the line of the count",
+    "_ask/lines.Lines._by_run": "passes lines or documents on, and the end and the token; compares the count with that of what was printed",
+    "_ask/lines.Lines.count": "takes the count, which is printed twice, and compares these",
+    "_ask/lines.counted": "reads the line of the count; compares it with that of what was printed",
     "_ask/merge._check": "moves the places of faults to those in the whole file",
-    "_ask/questions.Questions._asked_by": "cuts a batch into its documents",
     "_ask/replies.read_batch": "reads a reply",
     "_ask/steps.Reading._read": "reads a reply",
     "_ask/steps.Reading.token": "reads a reply",
@@ -40,16 +35,13 @@ PLACES = {
     "_backup/ids._Finding.pass_on": "passes lines on; takes a document that dump refuses for one with a fault",
     "_backup/query._answer": "passes lines on",
     "_backup/reading._Batch.good": "notes faults, and leaves out their documents; compares the count with that of what was given",
-    "_command/finding.Finding._print_lines": "passes the line of the count on",
+    "_command/checks.dump_file": "reads the line of the count; moves the place of a fault to that in the dump",
+    "_command/finding.Finding._print_all": "passes the line of the count on",
+    "_command/finding.Finding._print_parts": "waits for the line of each part; passes the count of what was joined on",
     "_dumps/checking.Checking.faults": "moves the places of faults of an input to those in the dump, and adds up the counts",
-    "_dumps/checking.begins_wide": "looks whether the first fault is a double",
     "_dumps/checking.faults_of": "reads the lines of faults",
     "_dumps/checking.finish_check": "reads the line of the count; compares it with that of what was given",
-    "_dumps/originals.Original.fault": "takes the first fault",
-    "_dumps/originals.Original.given": "takes the numbers of documents out of the lines of a copy",
-    "_dumps/originals.Original.lines": "moves the place of a fault to that in the dump",
     "_dumps/passing.each_document": "raises the first fault; adds up the counts of inputs",
-    "_dumps/printing.Printing._of": "passes lines on; moves the place of a fault to that in the dump",
     "_dumps/printing.finish_dump": "reads the line of the count",
     "_dumps/printing.lines_of_documents": "compares the count with that of what was given",
     "_dumps/printing.pack_lines": "waits for the line of the count",
@@ -59,6 +51,8 @@ PLACES = {
     "_run/processes.Run.finish": "compares all that a run says with the line of its count",
     "_run/wide._refuse_other_version": "compares the version",
 }
+# What puts in order, counts or adds.
+ORDERING = {"sorted", "sort", "sum", "Counter", "most_common", "merge"}
 # Where what was printed, or the bytes of a dump, are compared, put in order or counted, and why that decides no answer of a query.
 DECIDES = {
     "_ask/distinct.Distinct.add": "takes each value of a field once; which documents match is the program's answer",
@@ -68,6 +62,7 @@ DECIDES = {
     "_backup/beginnings.Beginnings._chain": "guesses where documents go on, of which check says whether they have a fault",
     "_backup/compare._by_key": "documents are the same if their bytes are: that is what the command says",
     "_backup/compare._compare_sorted": "counts them",
+    "_backup/compare._one_alone": "counts the documents of a dump that only one directory has",
     "_backup/count.Count._take_by": "counts documents by the bytes of their values; which documents match is the program's answer",
     "_backup/count.Count.merge": "adds the counts of documents that are not the same",
     "_backup/count.Count.rows": "values are one if their numbers or their texts are equal: that is what the command says",
@@ -79,9 +74,44 @@ DECIDES = {
     "_backup/schema._Looking.look": "counts the types of values, and keeps the least and the greatest: that is what the command says",
     "_backup/sums.Sum.add": "adds numbers, exactly: that is what the command says",
     "_backup/texts.order_of": "sorts rows of equal counts, and the values of a schema",
-    "_dumps/originals.numbers_in": "the numbers of the documents that the program found, each of which it has as its first field",
     "_dumps/framing.walk": "the lengths of documents, before a run reads them",
-}
+    "_dumps/framing.ends_in": "the same of bytes that pass",
+    **dict.fromkeys(
+        ["_backup/reports.Report.faulty", "_backup/reports.Report.harmless", "_backup/reports.Audit.kinds", "_backup/reports.Audit.rows",
+         "_backup/reports.Audit.as_json"],
+        "adds up the faults, the documents and the files of reports, and prints the most frequent kinds first",
+    ),
+    **dict.fromkeys(
+        ["_backup/schema.Field.merge", "_backup/schema.Field.fold", "_backup/schema.Schema._merge", "_backup/schema._rows",
+         "_backup/schema._Looking._slot", "_command/counting._shares"],
+        "adds what was found in some documents, counts paths, and prints the most frequent types first: that is what the command says",
+    ),
+    **dict.fromkeys(
+        ["_backup/sorting.Sorter.add", "_backup/sorting.Sorter.all"],
+        "puts the lines of `compare` in the order of their bytes, so that those of one key come together",
+    ),
+    **dict.fromkeys(
+        ["_backup/beginnings.Beginnings._undamaged_of", "_backup/reading._Batch.__init__"],
+        "how many documents, or bytes of them, a run was given, which its count is compared with",
+    ),
+    **dict.fromkeys(
+        ["_backup/beginnings.Beginnings._undamaged", "_backup/salvage.Salvaging._check_ahead", "_backup/salvage.Salvaged.bytes_left_out",
+         "_ask/steps.Reading._made", "_dumps/originals.Original.documents"],
+        "bytes: how many are held in memory, or were left out",
+    ),
+    **dict.fromkeys(
+        ["_backup/audit.audit_dumps", "_backup/grep.grep_dumps", "_command/console.Progress._show"],
+        "how many bytes there are to read, for the line of progress",
+    ),
+    **dict.fromkeys(
+        ["_backup/audit._check_all", "_backup/audit._Checker._check_archive", "_backup/backups._Directory.__init__",
+         "_backup/backups.metadata_below", "_backup/compare.pairs_of"],
+        "puts files or collections in the order of their names or sizes",
+    ),
+    "_command/commands._run_unpack": "adds up the documents of collections that were written",
+    "_ask/lines.Lines.count": "adds up the counts of inputs of one dump",
+    "__init__.__dir__": "puts the names of the package in order",
+}  # fmt: skip
 # Each clause that catches any error, and what becomes of that: none is lost.
 WIDE = {
     "_ask/aio.AsyncSession.open": "ends the session, and raises it",
@@ -94,7 +124,7 @@ WIDE = {
     "_ask/merge._Asking.each": "ends all runs, and raises it, or the error of the first part that failed",
     "_ask/plans.now": "gives it to the plan, which raises what comes of it",
     "_ask/questions.Questions.__init__": "closes what was opened, and raises it",
-    "_ask/steps.Reading.read_on": "keeps the batch for the next call, and raises it",
+    "_ask/questions.Questions._first": "closes the file, and raises it",
     "_backup/audit._check_all": "ends all runs, and raises it",
     "_backup/grep._Reading.run": "hands it to whoever reads what was found, where it is raised",
     "_command/shell.run_command": "reports it, with a status that is not 0",
@@ -189,13 +219,21 @@ class House(unittest.TestCase):
         found: Set[str] = set()
         for name, tree in modules().items():
             for place, node in functions(name, tree):
-                calls = (it.func for it in ast.walk(node) if isinstance(it, ast.Call))
-                names = {it.attr if isinstance(it, ast.Attribute) else it.id for it in calls if isinstance(it, (ast.Attribute, ast.Name))}
-                if names & READERS:
+                if names_called(node) & READERS:
                     found.add(place)
         self.assertEqual(found, set(PLACES))
-        known = {place for name, tree in modules().items() for place, _ in functions(name, tree)}
-        self.assertEqual(set(DECIDES) - known, set())
+
+    def test_what_is_decided(self) -> None:
+        """Each place that puts in order, counts or adds is listed, with the reason, and so are those that compare; none is listed that is gone."""
+        known = {place: names_called(node) for name, tree in modules().items() for place, node in functions(name, tree)}
+        self.assertEqual(set(DECIDES) - set(known), set())
+        self.assertEqual({place for place, names in known.items() if names & ORDERING} - set(DECIDES), set())
+
+
+def names_called(node: ast.AST) -> Set[str]:
+    """The names of what a function calls."""
+    calls = (it.func for it in ast.walk(node) if isinstance(it, ast.Call))
+    return {it.attr if isinstance(it, ast.Attribute) else it.id for it in calls if isinstance(it, (ast.Attribute, ast.Name))}
 
 
 def functions(name: str, tree: ast.AST, inside: str = "") -> Iterator[Tuple[str, ast.AST]]:

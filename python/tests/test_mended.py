@@ -129,6 +129,31 @@ class Files(Room):
         whole.chmod(0o600)
         for it in unpack(whole, self.room / "out").collections:
             self.assertEqual({os.stat(name).st_mode & 0o777 for name in (it.path, it.metadata) if name}, {0o600})
+        ids = self.file(b"7\n1000\n", "ids")
+        ids.chmod(0o600)
+        self.assertEqual(run_package("ids", str(PEOPLE), "--ids", str(ids), "--missing", f"{self.room}/missing").returncode, 1)
+        self.assertEqual((self.room / "missing").stat().st_mode & 0o777, 0o600)
+
+    def test_rights_that_a_file_system_refuses(self) -> None:
+        """The error names the file, and nothing is left; before a file has its rights no other user can open it."""
+        seen = []
+
+        def refuse(file: int, mode: int) -> None:
+            seen.append((os.fstat(file).st_mode & 0o777, mode))
+            raise PermissionError(1, "Operation not permitted")
+
+        path, whole = self.file(PEOPLE.read_bytes()), self.file(ARCHIVE.read_bytes(), "whole.archive")
+        for it in (path, whole):
+            it.chmod(0o644)
+        with mock.patch("os.fchmod", refuse):
+            for make in (
+                lambda: salvage(path, self.room / "good", self.room / "bad", program=PROGRAM),
+                lambda: unpack(whole, self.room / "out"),
+            ):
+                with self.assertRaisesRegex(FileError, "Operation not permitted"):
+                    make()
+        self.assertEqual(seen, [(0o600, 0o644)] * 2)
+        self.assertEqual(sorted(os.listdir(self.room)), ["dump.bson", "whole.archive"])
 
     def test_outputs_that_cannot_be_written(self) -> None:
         """They are tried first: nothing is read before that, and nothing is left."""
@@ -251,6 +276,13 @@ class Audits(Room):
         (told,) = json.loads(audit(path, program=PROGRAM).as_json())["files"]
         self.assertEqual([(it["value"], it["goes_on"]) for it in told["faults"]][:2], [(2, None), (255, None)])
         self.assertEqual(told["faults"][0]["id"], json.loads(ids[0]))
+        # So it is of a file that is packed, and of a collection of an archive, in which all lengths must be right.
+        (again,) = audit(self.file(gzip.compress(bytes(data)), "dump.bson.gz"), program=PROGRAM).reports
+        self.assertEqual((list(again.lines()), again.details), (lines, report.details))
+        data[99809:99811] = SHOP.read_bytes()[99809:99811]
+        whole = self.file(archive([("shop", "orders", bytes(data))]), "whole.archive")
+        (again,) = audit(f"{whole}::shop.orders", program=PROGRAM).reports
+        self.assertEqual(list(again.lines())[:2], lines[:2])
         # An id that has a fault itself is left out, and nothing else leaves one out.
         (report,) = audit(self.file(document(field(2, "_id", b"\2\0\0\0\xff\0")), "id.bson"), program=PROGRAM).reports
         self.assertEqual(list(report.lines())[0], 'document 0, byte 13, path "_id": not UTF-8 ff')
@@ -260,6 +292,8 @@ class Audits(Room):
         cut = self.file(SHOP.read_bytes()[:100_000], "cut.bson")
         (report,) = audit(cut, program=PROGRAM).reports
         self.assertEqual((report.documents, report.rest), (310, 191))
+        self.assertEqual(list(report.lines())[1], "309 documents and a rest of 191 bytes, 1 faulty")
+        (report,) = audit(self.file(gzip.compress(SHOP.read_bytes()[:100_000]), "cut.bson.gz"), program=PROGRAM).reports
         self.assertEqual(list(report.lines())[1], "309 documents and a rest of 191 bytes, 1 faulty")
         wrong = bytearray(SHOP.read_bytes())
         wrong[99809:99813] = b"\xff\xff\xff\x7f"

@@ -215,9 +215,12 @@ class LongFilters(Room):
                 ask({"a": long, "b": {"$above": 1}})
             self.assertEqual(raised.exception.args, ("filter", 1, "unknown operator", "b.$above"))
             with self.assertRaises(CommandError) as raised:
+                ask({"a": long, "b": {"$oid": "x"}})
+            at = len('{"a":"","b":') + len(long)
+            self.assertEqual(raised.exception.args, ("json", 4, "bad wrapper", at))
+            with self.assertRaises(CommandError) as raised:
                 ask({"a": long, "b": {"$size": 1.5}})
-            at = len('{"a":"","b":{"$size":') + len(long)
-            self.assertEqual(raised.exception.args, ("json", 5, "not in the profile", at))
+            self.assertEqual(raised.exception.args, ("filter", 3, "bad operand", "b.$size"))
         for ask in (find_parts, count_parts):
             with self.assertRaises(PartError) as failed:
                 ask(plan(self.file(DAMAGED)), {"a": long}, program=PROGRAM)

@@ -68,7 +68,9 @@ class Sessions(Room):
         self.session.create_index("age")
         for refused, wanted in (
             (lambda: self.session.find({"a": {"$above": 1}}), ("filter", 1, "unknown operator", "a.$above")),
-            (lambda: self.session.find({"a": {"$size": 1.5}}), ("json", 5, "not in the profile", 14)),
+            (lambda: self.session.find({"a": {"$size": 1.5}}), ("filter", 3, "bad operand", "a.$size")),
+            (lambda: self.session.find({"a": 1.5, "é": {"$oid": "x"}}), ("json", 4, "bad wrapper", 18)),
+            (lambda: self.session.find({"a": {"$date": "2025-01-01T00:00:00Z"}}), ("json", 5, "not in the profile", 5)),
             (lambda: self.session.find(sort=[("a", 1), ("a", -1)]), ("session", 1, "not a sort", None)),
             (lambda: self.session.find(sort={"a": 2}), ("session", 1, "not a sort", None)),
             (lambda: self.session.find(hint="b"), ("session", 2, "no such index", None)),
@@ -191,14 +193,14 @@ class Endings(Room):
             Session(PEOPLE, "no-such-program")
         self.assertEqual(str(raised.exception), "cannot start no-such-program: No such file or directory")
 
-    def test_programs_that_are_not_bsonfind(self) -> None:
+    def test_programs_that_are_not_bsonwide(self) -> None:
         """What they print is no reply, or none that this command has."""
         for text in ("hello", "5", '{"ok":1', "[]", '{"a":true}', '{"ok":false}', '{"ok":true}', "\\000\\001\\377"):
-            program = self.script(f"""while read -r line; do printf '%b\\n' '{text}'; done""")
+            program = self.wide(f"""while read -r line; do printf '%b\\n' '{text}'; done""")
             for ask in (Session.find_one, Session.count_documents):
                 with self.subTest(text), self.assertRaises(ProgramError) as raised, Session(PEOPLE, program) as session:
                     ask(session, {})
-                self.assertIn("not bsonfind", str(raised.exception))
+                self.assertIn("not bsonwide", str(raised.exception))
 
     def test_name_with_a_hyphen(self) -> None:
         self.file(PEOPLE.read_bytes(), "-")
@@ -222,7 +224,7 @@ class Endings(Room):
 
     def test_program_that_is_killed(self) -> None:
         pids = self.room / "pid"
-        session = Session(PEOPLE, self.script('echo $$ >"$ROOM/pid"\nexec "$PROGRAM" "$@"'))
+        session = Session(PEOPLE, self.wide('echo $$ >"$ROOM/pid"\nexec "$WIDE" "$@"'))
         self.addCleanup(session.close)
         os.kill(int(pids.read_text()), signal.SIGKILL)
         with self.assertRaises(SessionEndedError) as raised:
@@ -233,8 +235,8 @@ class Endings(Room):
 
     def test_reply_that_is_cut(self) -> None:
         refusal = '{"ok":false,"layer":"session","number":{"$numberInt":"6"},"text":"no such cursor"}'
-        cut = "printf '{\"ok\":tr'\necho 'bsonfind: no memory' >&2\nexit 1"
-        session = Session(PEOPLE, self.script(f"read line\necho '{refusal}'\nread line\n{cut}"))
+        cut = "printf '{\"ok\":tr'\necho 'bsonwide: no memory' >&2\nexit 1"
+        session = Session(PEOPLE, self.wide(f"read line\necho '{refusal}'\nread line\n{cut}"))
         self.addCleanup(session.close)
         with self.assertRaises(SessionEndedError) as raised:
             session.find()
@@ -242,6 +244,6 @@ class Endings(Room):
 
     def test_interrupt(self) -> None:
         """No program is left, where Python alone is interrupted while a dump is read."""
-        program = self.script('echo $$ >>"$ROOM/pids"\nexec sleep 600')
+        program = self.wide('echo $$ >>"$ROOM/pids"\nexec sleep 600')
         status = self.interrupt(f"import bsonfind\nbsonfind.Session({str(PEOPLE)!r}, {program!r})", 1)
         self.assertEqual(status, -signal.SIGINT)

@@ -295,7 +295,7 @@ class LongQuestions(Room):
                 find_parts(plan(PEOPLE, 40_000), workers=workers, program=self.wide(first), timeout=0.5)
 
     def test_timeout_of_a_command(self) -> None:
-        program = self.script('read line\necho \'{"ok":true}\'\nexec sleep 600')
+        program = self.wide('read line\necho \'{"ok":true}\'\nexec sleep 600')
         session = Session(PEOPLE, program, timeout=0.5)
         self.addCleanup(session.close)
         with self.assertRaises(TimedOutError):
@@ -323,7 +323,7 @@ class LongQuestions(Room):
         wait_for(lambda: threading.active_count() == 1)
 
     def test_cancelled_session(self) -> None:
-        session = Session(PEOPLE, self.script('read line\necho \'{"ok":true}\'\nexec sleep 600'))
+        session = Session(PEOPLE, self.wide('read line\necho \'{"ok":true}\'\nexec sleep 600'))
         self.addCleanup(session.close)
         threading.Timer(0.3, session.cancel).start()
         with self.assertRaises(CancelledError):
@@ -375,10 +375,10 @@ class Failing(Room):
     """Parts that fail end the others at once."""
 
     def test_first_part_that_fails(self) -> None:
-        """The last part, which begins with a document of 16 bytes and its number of 6, fails at once, and the others would take ten minutes."""
+        """The last part, which begins with a document of 16 bytes, fails at once, and the others would take ten minutes."""
         program = self.wide(
             '[ "$1" = check ] && exec "$WIDE" "$@"\n'
-            '[ "$(dd bs=1 count=1 2>/dev/null | od -An -tu1 | tr -d " ")" = 22 ] || exec sleep 600\n'
+            '[ "$(dd bs=1 count=1 2>/dev/null | od -An -tu1 | tr -d " ")" = 16 ] || exec sleep 600\n'
             'echo "bsonwide: document 0, byte 4, path \\"d\\": bad boolean" >&2\nexit 1'
         )
         parts = plan(PEOPLE, 40_000) + plan(self.file(DOUBLE))

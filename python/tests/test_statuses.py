@@ -23,11 +23,11 @@ from bsonfind.__main__ import main
 signal.signal(signal.SIGINT, signal.default_int_handler)
 sys.exit(main())
 """
-COMMANDS = ("check", "dump", "find", "prepare", "audit", "salvage", "compare", "query", "ids")
+COMMANDS = ("check", "dump", "find", "audit", "salvage", "compare", "query", "ids")
 # Those that begin with the run that reads the dump; the others try the program before.
 ONE_RUN = COMMANDS[:3]
 # Those with the statuses of the program, and what each has for what could not be done.
-AS_THE_PROGRAM = ("check", "dump", "find", "prepare")
+AS_THE_PROGRAM = ("check", "dump", "find")
 FAILED = {**dict.fromkeys(COMMANDS, 2), **dict.fromkeys(AS_THE_PROGRAM, 1)}
 # What they have where a dump has a fault: what judges it, or stops at it, has found something; what needs all of it could not be done.
 OF_A_FAULT = {**dict.fromkeys(COMMANDS, 1), "compare": 2, "ids": 2}
@@ -38,7 +38,6 @@ class Statuses(Room):
         """The words of a command over a dump."""
         return {
             **{name: [name, str(dump)] for name in ("check", "dump", "find", "audit", "query")},
-            "prepare": ["prepare", str(dump), str(self.room / "copy")],
             "salvage": ["salvage", str(dump), "--good", str(self.room / "good"), "--bad", str(self.room / "bad")],
             "compare": ["compare", str(dump), str(PEOPLE)],
             "ids": ["ids", str(dump), "--ids", str(self.file(b"7\n", "ids"))],
@@ -111,8 +110,8 @@ class Statuses(Room):
         self.want(PEOPLE, dict.fromkeys(COMMANDS, 2), "--no-such-option")
         with open("/dev/full", "wb") as full:
             for command in COMMANDS:
-                if command in ("check", "prepare"):
-                    continue  # They print nothing there of what is good.
+                if command == "check":
+                    continue  # It prints nothing there of what is good.
                 run = run_package(*self.words(command, PEOPLE), stdout=full)
                 # The counts of `compare` are on standard error, and these dumps do not differ.
                 self.assertEqual(run.returncode, 0 if command == "compare" else FAILED[command], command)

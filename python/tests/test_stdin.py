@@ -90,3 +90,35 @@ class StandardInput(Room):
                 self.assertEqual(status, 0, said)
                 self.assertIn(told.format(3), said)
         self.assertEqual((self.room / "good").read_bytes(), b"".join(DOCUMENTS[1:]))
+
+    def test_commands_over_many_files(self) -> None:
+        """`-` is standard input there too, and never a file of that name; a pipe that it is counts once, by each of its names."""
+        self.file(DOCUMENTS[0], "-")
+        for words, told in (
+            (["audit", "-"], "-: 4 documents, 0 faulty"),
+            (["audit", "-", "/dev/stdin"], "/dev/stdin: 4 documents, 0 faulty"),
+            (["audit", "./-", "-"], "./-: 1 documents, 0 faulty"),
+            (["info", "-"], "\t-\tcollection\t4\t"),
+            (["query", "-", "--query", '{"x":1.5}'], '-\t{"x":{"$numberDouble":"1.5"}}'),
+            (["grep", "x", "-"], "-\t\tx\t"),
+        ):
+            read, write = os.pipe()
+            os.write(write, DATA)
+            os.close(write)
+            command = [sys.executable, "-m", "bsonfind", words[0], "--program", PROGRAM, *words[1:]]
+            run = subprocess.run(command, env=environment(), stdin=read, capture_output=True, text=True, cwd=self.room, timeout=PATIENCE)
+            os.close(read)
+            with self.subTest(words):
+                self.assertEqual(run.returncode, 0, run.stderr)
+                self.assertIn(told, run.stdout)
+
+    def test_pipe_that_is_named_twice(self) -> None:
+        """By whatever names: nothing is left of it for the second one."""
+        for words in (["check"], ["dump"], ["compare"], ["query"], ["count"], ["schema"], ["grep", "x"]):
+            for names, told in ((["-", "/dev/stdin"], "/dev/stdin"), (["/dev/fd/0", "-"], "standard input"), (["/dev/stdin", "/dev/fd/0"], "/dev/fd/0")):
+                read, write = os.pipe()
+                os.close(write)
+                command = [sys.executable, "-m", "bsonfind", "--program", PROGRAM, *words, *names]
+                status, said = self.run_over(command, read)
+                os.close(read)
+                self.assertEqual((status, said), (2, f"bsonkit: {told} is named twice\n"), words)

@@ -104,8 +104,20 @@ class Replies(unittest.TestCase):
         documents = [b'{"a":"]},{"}', b"{}", b'{"a":[{"b":{"$numberInt":"1"}},{}]}']
         batch = read_batch(b'{"ok":true,"documents":[%s],"end":true,"token":"AQ=="}\n' % b",".join(documents))
         self.assertEqual(batch, (b",".join(documents), True, "AQ=="))
-        self.assertEqual(documents_in(batch.text), documents)
+        self.assertEqual(documents_in(batch.found), documents)
         self.assertEqual(read_batch(b'{"ok":true,"documents":[],"end":false,"token":null}\n'), (b"", False, None))
+
+    def test_numbers_of_documents(self) -> None:
+        places = b'[{"$numberInt":"7"},{"$numberInt":"0"},{"$numberLong":"2147483648"}]'
+        batch = read_batch(b'{"ok":true,"places":%s,"end":false,"token":"AQ=="}\n' % places)
+        self.assertEqual(batch, ([7, 0, 2147483648], False, "AQ=="))
+        self.assertEqual(read_batch(b'{"ok":true,"places":[],"end":true,"token":null}\n'), ([], True, None))
+        for bad in (b"7", b"null", b"{}", b'["7"]', b"[true]", b'[{"$numberInt":"-1"}]', b'[{"$numberInt":"x"}]', b"[1.5]"):
+            with self.assertRaises(ProgramError):
+                read_batch(b'{"ok":true,"places":%s,"end":true,"token":null}\n' % bad)
+        for cut in (b'{"ok":true,"places":[]}\n', b'{"ok":true,"places":[\n'):
+            with self.assertRaises(ProgramError):
+                read_batch(cut)
 
     def test_documents_of_random_texts(self) -> None:
         """Texts are cut where Python's own reader of JSON ends a document."""

@@ -556,10 +556,10 @@ class Members(Room):
         good, bad = str(self.room / "good"), str(self.room / "bad")
         for path in (self.plain, self.packed):
             told = f"an archive: name one of its collections, {path}::db.collection, or unpack it"
-            outputs = ["salvage", "--good", good, "--bad", bad], ["prepare", good]
-            for words in (["query"], ["compare", str(PEOPLE)], ["find"], ["dump"], *outputs):
+            output = ["salvage", "--good", good, "--bad", bad]
+            for words in (["query"], ["compare", str(PEOPLE)], ["find"], ["dump"], ["serve"], output):
                 run = run_package(words[0], str(path), *words[1:])
-                status = 1 if words[0] in ("dump", "find", "prepare") else 2
+                status = 1 if words[0] in ("dump", "find", "serve") else 2
                 self.assertEqual((run.returncode, f"{told}\n" in run.stderr), (status, True), run.stderr)
             for ask in (count_documents, lambda path, program: list(find(path, program=program)), Session, plan_and_count):
                 with self.assertRaises(DumpError) as caught:

@@ -1,4 +1,4 @@
-"""Sessions for asyncio: what `_sessions` does, without a thread that waits."""
+"""Sessions for asyncio: what `sessions` does, without a thread that waits."""
 
 from __future__ import annotations
 
@@ -28,7 +28,7 @@ class AsyncSession:
 
     Tasks may share a session, and a cursor belongs to one task at a time. A call that is cancelled in the middle of a reply
     ends the session. Otherwise it is a `Session`: a dump that is refused is a `DumpError` at once, and so on. A thread waits while the
-    dump is read, and while a copy of a dump with doubles is written.
+    dump is read.
     """
 
     def __init__(
@@ -37,13 +37,12 @@ class AsyncSession:
         program: str = "bsonfind",
         *,
         timeout: float | None = None,
-        copy: File | None = None,
         uuid_representation: Uuids = "standard",
     ) -> None:
         self._uuids, self._owner = uuids_of(uuid_representation), os.getpid()
         self._group, self._loop = Group(), Loop()
         self._timeout = seconds(timeout)
-        self._open = partial(Questions, name_of_file(path), program, self._timeout, copy, self._group)
+        self._open = partial(Questions, name_of_file(path), program, self._timeout, self._group)
         self._questions: Questions | None = None
 
     async def open(self) -> AsyncSession:

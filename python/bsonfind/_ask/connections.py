@@ -4,11 +4,11 @@ from __future__ import annotations
 
 import threading
 from collections import deque
-from typing import Callable, TypeVar
-from weakref import WeakSet
+from typing import Callable, Sequence, TypeVar
 
 from .._errors import CancelledError, SessionEndedError, TimedOutError
 from .._run.processes import Dump, Group, Run
+from .._run.wide import wide_program
 from .plans import Alone, Plan, Receive, Send, Work, now
 from .steps import Command, Steps, kill
 
@@ -21,17 +21,14 @@ class Connection:
     Before an answer is given `check` is called, which raises why there is none, such as a dump that was replaced.
     """
 
-    def __init__(self, dump: Dump, program: str, group: Group | None = None, check: Callable[[], None] = lambda: None) -> None:
+    def __init__(self, dump: Dump, program: str, group: Group, check: Callable[[], None], options: Sequence[str] = ()) -> None:
         self._lock, self._check = threading.Lock(), check
-        self._group = group or Group()
-        self._run = Run.serving(dump, program, self._group)
+        self._group = group
+        self._run = Run.serving(dump, wide_program(program, group), options, group)
         # Why it ended, where it has.
         self._ended: str | None = None
         # The cursors that are to be closed.
         self._left: deque[int] = deque()
-        # Who asks by it, and the filters of which it is known that no document matches.
-        self.users: WeakSet[object] = WeakSet()
-        self.without_matches: set[str] = set()
         try:
             # Waits until the dump is read, by a command that changes nothing.
             if not now(self._bytes_for(kill(0))):
@@ -117,9 +114,3 @@ class Connection:
     def _end(self, reason: str) -> None:
         self._ended = self._ended or reason
         self._run.close()
-
-    def __enter__(self) -> Connection:
-        return self
-
-    def __exit__(self, *_: object) -> None:
-        self.close()

@@ -1,38 +1,53 @@
-"""The lines that answer a request over a dump: by a run of `bsonwide find`, or by a session if an argument would be too long."""
+"""What answers a request over a dump: lines, documents as they are, or their number.
+
+A run of `bsonwide find` prints it, or where an argument would be too long a session does.
+"""
 
 from __future__ import annotations
 
 import re
-import subprocess
 from contextlib import ExitStack, closing
-from typing import NamedTuple, Union
+from io import BufferedReader
+from typing import Any, NamedTuple, Sequence, Union
 
-from .._dumps.originals import Original, numbers_in
+from .._dumps.originals import Original
+from .._dumps.passing import documents_taken
 from .._dumps.printing import Batches, lines_of
 from .._dumps.sources import Source
-from .._errors import DumpError
+from .._errors import ProgramError
 from .._names import File, name_of_file
 from .._run.processes import Dump, Group, Run
 from .._run.wide import wide_program
 from .requests import Request
 
 _COUNTED = re.compile(r"(\d+) documents, (end|more)(?:, token (\S+))?\n")
-# What is asked: a file by its name, one that is open, or bytes.
-Asked = Union[Source, Original, Dump]
+_PIECE = 1 << 16
+# What is asked: a dump that is open, or bytes.
+Asked = Union[Source, Dump]
 
 
 class Counted(NamedTuple):
-    """How many documents were printed, whether none follows, and the token that leads on."""
+    """How many documents were found, whether none follows, and the token that leads on."""
 
     documents: int
     end: bool
     token: str | None
 
 
-def counted(run: Run) -> Counted:
-    """Waits for the end of a run of `find`, and gives what its line says; raises the error of a run that did not end well."""
+def counted(run: Run, printed: int | None = None) -> Counted:
+    """Waits for the end of a run of `find`, and gives what its line says; raises the error of a run that did not end well.
+
+    Where it is known how many documents were printed, another number is an error.
+    """
     documents, end, token = run.finish(_COUNTED).groups()
+    if printed not in (None, int(documents)):
+        raise ProgramError(f"find printed {printed} documents in place of {documents}")
     return Counted(int(documents), end == "end", token)
+
+
+def finding(dump: Dump, request: Request, program: str, options: Sequence[str] = (), **how: Any) -> Run:
+    """A run of `find`."""
+    return Run.over(dump, wide_program(program, how.get("group")), "find", [*request.words(), *options], **how)
 
 
 class Lines:
@@ -61,11 +76,11 @@ class Lines:
         """The lines as they come, without their newlines, or documents. Closing this ends the program."""
         with ExitStack() as files:
             dump = self._opened(files)
-            how = self._by_session if self._request.is_long else self._by_number if self._is_bson else self._by_run
-            for lines in files.enter_context(closing(how(dump, files))):
-                _check(dump)
-                yield lines
-            _check(dump)
+            how = self._by_session if self._request.is_long else self._by_run
+            for some in files.enter_context(closing(how(dump, files))):
+                check(dump)
+                yield some
+            check(dump)
 
     def count(self) -> int:
         """How many lines there are."""
@@ -73,74 +88,67 @@ class Lines:
             return sum(map(len, self.batches()))
         with ExitStack() as files:
             dump = self._opened(files)
-            with self._run(_whole(dump), subprocess.DEVNULL) as run:
+            with self._run(dump, "--count") as run:
+                told = run.stdout.read(_PIECE)
                 documents = counted(run).documents
-            _check(dump)
+            check(dump)
+        if told != f"{documents}\n".encode():
+            raise ProgramError(f"find printed {told[:60]!r} in place of {documents}")
         return documents
 
     def _opened(self, files: ExitStack) -> Asked:
-        if isinstance(self._dump, (Source, Original, Dump)):
+        if isinstance(self._dump, (Source, Dump)):
             return self._dump
         return files.enter_context(Source(name_of_file(self._dump), is_named=True))
 
-    def _run(self, dump: Dump, stdout: int = subprocess.PIPE) -> Run:
+    def _run(self, asked: Asked, *more: str) -> Run:
+        dump = asked.dump() if isinstance(asked, Source) else asked
         options = (("batch", self._size), ("index", self._index), ("after", self._after))
-        words = [*self._request.words(), *(f"--{name}={value}" for name, value in options if value is not None)]
-        return Run.over(dump, wide_program(self._program, self._group), "find", words, stdout=stdout, group=self._group)
-
-    def _read(self, dump: Dump) -> Batches:
-        with self._run(dump) as run:
-            yield from lines_of(run.stdout)
-            _, self.end, self.token = counted(run)
+        words = [*(f"--{name}={value}" for name, value in options if value is not None), *more]
+        return finding(dump, self._request, self._program, words, group=self._group)
 
     def _by_run(self, dump: Asked, _: ExitStack) -> Batches:
-        yield from self._read(_whole(dump))
-
-    def _by_number(self, dump: Asked, files: ExitStack) -> Batches:
-        """The documents of the numbers that a run over the numbered documents prints. A fault is that of the dump."""
-        original = _original(dump, files)
-        try:
-            for lines in self._read(Dump(original.numbered())):
-                yield original.documents(numbers_in(lines))
-        except DumpError as error:
-            raise (original.fault(self._program, self._group) if error.fault else None) or error from None
+        number = 0
+        with self._run(dump, *(["--bson"] if self._is_bson else [])) as run:
+            for some in (documents_of if self._is_bson else lines_of)(run.stdout):
+                number += len(some)
+                yield some
+            _documents, self.end, self.token = counted(run, number)
 
     def _by_session(self, dump: Asked, files: ExitStack) -> Batches:
+        """The same over a file, by its descriptor: what can be read only once is written to one without a name."""
         # A session is imported where one is needed: that takes longer than the start of Python.
         from .plans import now
         from .questions import Answering, Questions
         from .steps import FIRST_BATCH
 
-        asked: Source | Original = dump if isinstance(dump, Source) else _original(dump, files)
+        original = Original.of(dump) if isinstance(dump, Source) else Original.of_pieces(dump.pieces or ())
+        files.callback(original.close)
         remaining = self._size
-        with Questions(asked, self._program, group=self._group) as questions:
+        with Questions(f"/dev/fd/{original.rewound().fileno()}", self._program, group=self._group) as questions:
             if self._index is not None:
                 now(questions.create_index(self._index, False))
             answering = Answering(self._request, "auto", remaining or FIRST_BATCH, self._after, "bson" if self._is_bson else "bytes")
-            now(answering.open(questions))
-            while not answering.is_at_end and remaining != 0:
-                now(answering.read_on(questions, remaining))
-                texts = answering.reading.held.documents
-                lines = [texts.give() for _ in range(texts.left)]
-                remaining = None if remaining is None else remaining - len(lines)
-                yield lines
-            self.end, self.token = answering.is_at_end, now(answering.token(questions))
+            connection, reading = now(answering.open(questions)), answering.reading
+            while not reading.is_at_end and remaining != 0:
+                now(connection.ask(reading.read_on(questions.documents, remaining)))
+                some = [reading.held.documents.give() for _ in range(reading.held.documents.left)]
+                remaining = None if remaining is None else remaining - len(some)
+                yield some
+            self.end, self.token = reading.is_at_end, now(answering.token(questions))
 
 
-def _whole(dump: Asked) -> Dump:
-    return dump.dump() if isinstance(dump, Source) else dump.dump if isinstance(dump, Original) else dump
+def documents_of(pipe: BufferedReader) -> Batches:
+    """The documents that a program prints as they are in a dump, as they come. Bytes after the last whole one are none."""
+    found: list[bytes] = []
+    for _ in documents_taken(iter(lambda: pipe.read1(_PIECE), b""), found.append):
+        if found:
+            yield found[:]
+            found.clear()
 
 
-def _original(dump: Asked, files: ExitStack) -> Original:
-    """The documents of a dump. What they are written to is closed in the end."""
-    if isinstance(dump, Original):
-        return dump
-    original = Original.of(dump) if isinstance(dump, Source) else Original.of_pieces(dump.pieces or ())
-    files.callback(original.close)
-    return original
-
-
-def _check(dump: Asked) -> None:
+def check(dump: Asked) -> None:
+    """Refuses a dump that is no longer as it was when it was opened."""
     if isinstance(dump, Source):
         dump.check()
 

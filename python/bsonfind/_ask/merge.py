@@ -13,13 +13,10 @@ What is found goes from the parts to the whole as the documents are in the dump,
 from __future__ import annotations
 
 from concurrent.futures import ThreadPoolExecutor
-from contextlib import closing, contextmanager
 from functools import partial
 from typing import Any, Callable, Iterable, Iterator, NamedTuple, Sequence, TypeVar, overload
 
 from .._dumps.checking import checking, faults_of, finish_check
-from .._dumps.files import is_packed
-from .._dumps.originals import Original
 from .._dumps.parts import Part, PartError
 from .._dumps.sources import Input
 from .._errors import ArgumentError, BsonfindError, DumpError, ProgramError
@@ -202,20 +199,8 @@ def _part_error(part: Part, error: BsonfindError | OSError) -> PartError:
 
 def _packed_answer(request: Request, program: str, group: Group, part: Part) -> bytes:
     """The documents of a part that are found, as a dump."""
-    with _original(part, request.is_long) as original:
-        found = Lines(original, request, program, is_bson=True, group=group)
-        return b"".join(document for batch in found.batches() for document in batch)
-
-
-@contextmanager
-def _original(part: Part, by_session: bool) -> Iterator[Original]:
-    """The documents of a part. What is packed, or is asked by a session, is written to a file without a name."""
-    if by_session or is_packed(part.path):
-        with closing(Original.of_pieces(part.pieces())) as original:
-            yield original
-    else:
-        with part.opened() as source:
-            yield Original(source.file, False, part.offset, part.offset + part.length)
+    found = Lines(Dump(part.pieces()), request, program, is_bson=True, group=group)
+    return b"".join(document for batch in found.batches() for document in batch)
 
 
 def _joined(found: Lines) -> list[bytes]:

@@ -8,7 +8,7 @@ from typing import Any, NamedTuple
 
 from .._errors import CommandError, ProgramError
 
-_DOCUMENTS = b'{"ok":true,"documents":['
+_DOCUMENTS, _PLACES = b'{"ok":true,"documents":[', b'{"ok":true,"places":['
 _AFTER_DOCUMENTS = b'],"end":'
 # Every byte but a brace and a quotation mark.
 _REST = bytes(set(range(256)) - set(b'{}"'))
@@ -17,9 +17,9 @@ _NAME = re.compile(rb'\{"[^",:\]{}\\][^"{}\\]*":')
 
 
 class Batch(NamedTuple):
-    """The text of the documents of a batch with commas between them, whether none is left, and the token that leads on."""
+    """The text of the documents of a batch with commas between them, or their numbers; whether none is left, and the token that leads on."""
 
-    text: bytes
+    found: bytes | list[int]
     end: bool
     token: str | None
 
@@ -49,11 +49,17 @@ def _object(line: bytes, *names: str) -> dict[str, Any]:
 
 def junk(text: bytes | str) -> ProgramError:
     """The error of a text that the program never prints."""
-    return ProgramError(f"the program is not bsonfind: it printed {text[:60]!r}")
+    return ProgramError(f"the program is not bsonwide: it printed {text[:60]!r}")
 
 
 def read_batch(line: bytes) -> Batch:
     """A reply to `getMore`; a refusal is raised. No document is parsed."""
+    if line.startswith(_PLACES):
+        reply = read_reply(line, "places", "end", "token")
+        places = reply["places"]
+        if not isinstance(places, list) or not all(type(it) is int and it >= 0 for it in places):
+            raise junk(line)
+        return Batch(places, reply["end"], reply["token"])
     if not line.startswith(_DOCUMENTS):
         raise ProgramError(f"no batch but {read_reply(line)}")
     # Neither `end` nor a token has a bracket.

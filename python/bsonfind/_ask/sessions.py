@@ -24,9 +24,9 @@ class Session:
 
     Threads may share a session, and a cursor belongs to one thread at a time. Another process, such as one by a fork, opens its
     own session: there each call of this one is an `OtherProcessError`. A dump that is refused is a `DumpError` at once, and a
-    `SessionEndedError` reports that the program went away later. A dump with doubles or decimal128 is asked by way of a copy, which
-    is written when the session begins; a request that needs codes of further numbers has another copy, of which the last eight are
-    kept. Where a `timeout` is given, no call may take more seconds: a `TimedOutError` then ends the session.
+    `SessionEndedError` reports that the program went away later. Over a dump without doubles and decimal128, a second run that
+    compares by doubles is started once a request has some. Where a `timeout` is given, no call may take more seconds: a
+    `TimedOutError` then ends the session.
     """
 
     def __init__(
@@ -35,12 +35,11 @@ class Session:
         program: str = "bsonfind",
         *,
         timeout: float | None = None,
-        copy: File | None = None,
         uuid_representation: Uuids = "standard",
     ) -> None:
-        """Opens a dump, of which a `copy` by `prepare` may be given. UUIDs are those of `find`."""
+        """Opens a dump. UUIDs are those of `find`."""
         self._uuids = uuids_of(uuid_representation)
-        self._questions = Questions(path, program, timeout, copy)
+        self._questions = Questions(path, program, timeout)
 
     # fmt: off
     @overload

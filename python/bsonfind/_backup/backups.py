@@ -62,9 +62,10 @@ def dumps_of(names: Iterable[str]) -> list[Dump]:
     """
     dumps: dict[tuple[str, str | None], Dump] = {}
     for name in names:
-        for dump in dumps_below(name) if os.path.isdir(name) else [_named(name)]:
+        for dump in dumps_below(name) if name != "-" and os.path.isdir(name) else [_named(name)]:
             directory, base = os.path.split(dump.name)
-            first = dumps.setdefault((os.path.join(os.path.realpath(directory), base), dump.error), dump)
+            path = name if name == "-" else os.path.join(os.path.realpath(directory), base)
+            first = dumps.setdefault((path, dump.error), dump)
             first.is_below |= dump.is_below
             if first is dump and not dump.error:
                 _look_at(dump)
@@ -77,15 +78,15 @@ def _named(name: str) -> Dump:
 
 
 def _look_at(dump: Dump) -> None:
-    """Notes the size of a file, and what it is."""
+    """Notes the size of a file, and what it is. Standard input that is a file is read from where it is, so it is another one."""
     try:
-        status = os.stat(file_of(dump.name))
+        status = os.fstat(0) if dump.name == "-" else os.stat(file_of(dump.name))
     except OSError as error:
         dump.error = error.strerror
         return
-    dump.size = status.st_size if stat.S_ISREG(status.st_mode) else None
-    member = member_of(dump.name)
-    dump.file = status.st_dev, status.st_ino, member and member.namespace
+    is_regular, member = stat.S_ISREG(status.st_mode), member_of(dump.name)
+    dump.size = status.st_size if is_regular else None
+    dump.file = status.st_dev, status.st_ino, member and member.namespace, is_regular and dump.name == "-"
 
 
 def dumps_below(directory: str) -> Iterator[Dump]:
@@ -190,6 +191,8 @@ def namespace_of(name: str) -> str:
 
     mongodump shortens the name of a file whose collection has a long name, so the name in the metadata decides.
     """
+    if name == "-":
+        return name
     if is_oplog(name):
         return str(OPLOG)
     member = member_of(name)

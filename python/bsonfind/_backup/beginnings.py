@@ -59,10 +59,10 @@ class Beginnings:
     def __init__(self, window: Window, check: Check, say: Callable[[str], None]) -> None:
         self._window, self._check, self._say = window, check, say
 
-    def after(self, start: int) -> int | None:
-        """Where a document begins after a wrong length, None if none seems to. What is before that is dropped."""
+    def after(self, start: int, end: int | None = None) -> int | None:
+        """Where a document begins after a wrong length and before an end, None if none seems to. What is before that is dropped."""
         at = start + 1
-        while self._window.has(at + SHORTEST):
+        while (end is None or at < end) and self._window.has(at + SHORTEST):
             self._window.has(at + _PIECE)
             piece = self._window.part(at, min(at + _PIECE, self._window.end))
             for beginning in self._undamaged(self._chain(at + it, start) for it in _places(_BEGINNING, piece, 0)):

@@ -43,9 +43,13 @@ class Count:
         self._sums: dict[bytes, Sum] = {}
         self._size = 0
 
+    def add(self, documents: int) -> None:
+        """Counts this many documents."""
+        self._documents += documents
+
     def take(self, documents: Sequence[bytes]) -> None:
         """Counts some documents."""
-        self._documents += len(documents)
+        self.add(len(documents))
         if self._by:
             self._take_by(documents, self._by)
         elif self._add:

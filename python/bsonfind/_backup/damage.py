@@ -2,11 +2,10 @@
 
 from __future__ import annotations
 
-import os
-from typing import BinaryIO, Iterator, NamedTuple, Sequence
+from typing import NamedTuple, Sequence
 
 from .._dumps.elements import value_at
-from .._dumps.framing import LONGEST, walk
+from .._dumps.framing import LONGEST
 from .._dumps.printing import texts_of_values
 from .._dumps.sources import Source
 from .._errors import DumpError
@@ -45,41 +44,32 @@ def is_of_a_length(fault: Fault) -> bool:
     return not fault.path and fault.kind in _OF_A_LENGTH
 
 
-def rest_after(fault: Fault, size: int) -> int:
-    """How many bytes of a file of this size no document is known to be in, by its last fault."""
-    return size - fault.offset if is_of_a_length(fault) else 0
-
-
 def details_of(source: Source, faults: Sequence[Fault], program: str, group: Group) -> dict[int, Detail]:
-    """The details of some faults of a file that is read as it is, by the numbers of their documents; of others there are none."""
-    if not source.is_plain or not faults:
-        return {}
-    file, size = source.file, source.size or 0
-    return {
-        fault.document: _detail(file, size, fault, start, end, program, group)
-        for fault, (start, end) in zip(faults, _documents(file, faults))
-    }
+    """The details of some faults of a file, in their order, by the numbers of their documents; of a pipe there are none.
 
-
-def _documents(file: BinaryIO, faults: Sequence[Fault]) -> Iterator[tuple[int, int | None]]:
-    """Where the documents with these faults begin and end. A wrong length has no end, and is that of the last one."""
-    ends, number, start = walk(file), 0, 0
+    The file is read again, up to the last of them.
+    """
+    details: dict[int, Detail] = {}
+    if source.size is None:
+        return details
+    window, at, number = Window(source.pieces()), 0, 0
     for fault in faults:
-        if is_of_a_length(fault):
-            yield fault.offset, None
-            return
-        while number <= fault.document:
-            before, start = start, next(ends)
-            number += 1
-        yield before, start
+        while number < fault.document and (ends := window.document_ends(at, _PIECE, fault.document - number)):
+            ends = ends[: fault.document - number]
+            at, number = ends[-1], number + len(ends)
+            window.drop(at)
+        details[fault.document] = _detail(window, fault, at, program, group)
+    return details
 
 
-def _detail(file: BinaryIO, size: int, fault: Fault, start: int, end: int | None, program: str, group: Group) -> Detail:
-    value = os.pread(file.fileno(), 1, fault.offset)[0] if fault.kind in _OF_A_BYTE and fault.offset < size else None
-    head = os.pread(file.fileno(), min(_HEAD, size - start if end is None else end - start), start)
-    window = Window(_pieces(file, start, min(size, start + 2 * LONGEST)), start)
+def _detail(window: Window, fault: Fault, start: int, program: str, group: Group) -> Detail:
+    """The details of the document that begins there."""
+    end = None if is_of_a_length(fault) else window.document_end(start)
+    window.has(start + _HEAD)
+    value = window.byte(fault.offset) if fault.kind in _OF_A_BYTE and fault.offset < window.end else None
+    head = window.part(start, min(start + _HEAD, end or window.end))
     beginnings = Beginnings(window, Check(program, group), lambda _: None)
-    goes_on = beginnings.after(start) if end is None else beginnings.inside(start, end, fault.kind)
+    goes_on = beginnings.after(start, start + 2 * LONGEST) if end is None else beginnings.inside(start, end, fault.kind)
     return Detail(value, _id_of(head, program, group), goes_on)
 
 
@@ -95,10 +85,3 @@ def _id_of(head: bytes, program: str, group: Group) -> str | None:
             raise
         return None
     return text
-
-
-def _pieces(file: BinaryIO, start: int, end: int) -> Iterator[bytes]:
-    """The bytes of a file from one place to another."""
-    while start < end and (piece := os.pread(file.fileno(), min(_PIECE, end - start), start)):
-        yield piece
-        start += len(piece)

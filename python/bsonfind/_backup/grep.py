@@ -14,7 +14,7 @@ from uuid import UUID
 
 from .._dumps.archive import Archive, is_archive
 from .._dumps.archive_frames import Namespace, joined_pieces
-from .._dumps.files import name_in, unpacked_of
+from .._dumps.files import name_in
 from .._dumps.printing import texts_of_values
 from .._dumps.sources import Source
 from .._errors import BsonfindError, is_finding, why
@@ -194,7 +194,7 @@ class _Reading(threading.Thread):
         with Source(name) as source, self._grep.progress.over(source):
             raw = self._raw(source)
             if source.is_packed:
-                self._search(name, unpacked_of(name, raw))
+                self._search(name, source.unpacked(raw))
                 return
             joined = joined_pieces(raw, _HEAD)
             head = next(joined)
@@ -253,14 +253,10 @@ class _Reading(threading.Thread):
             self._put(Problem(file, name, text, True))
 
         grep = self._grep
-        good = _Sink(lambda data: self._put(grep.pool.submit(grep.search, file, name, bytes(data))))
-        Salvaging(pieces, good, _Sink(lambda _: None), grep.program, say, note, grep.group, _MOST).copy()
+
+        def search(data: bytes | memoryview) -> None:
+            self._put(grep.pool.submit(grep.search, file, name, bytes(data)))
+
+        Salvaging(pieces, search, lambda _: None, grep.program, say, note, grep.group, _MOST).copy()
         if faults > _MOST_FAULTS:
             self._put(Problem(file, name, f"and {faults - _MOST_FAULTS} more", True))
-
-
-class _Sink:
-    """What passes documents on."""
-
-    def __init__(self, take: Callable[[bytes | memoryview], None]) -> None:
-        self.write = take

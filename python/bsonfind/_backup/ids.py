@@ -7,11 +7,11 @@ from __future__ import annotations
 
 import json
 import re
-from fractions import Fraction
+from decimal import Decimal
 from typing import Callable
 
 from .._dumps.elements import value_at
-from .._dumps.numbers import number_in
+from .._dumps.numbers import is_finite, number_of
 from .._dumps.passing import documents_taken, each_document
 from .._dumps.printing import lines_of_documents, pack_lines
 from .._dumps.sources import Source
@@ -21,7 +21,6 @@ from .._run.wide import wide_program
 
 # How many documents, or bytes of documents, are printed at once.
 _MOST_DOCUMENTS, _MOST_BYTES = 1000, 1 << 22
-_INT32, _INT64 = 0x10, 0x12
 _OID = re.compile(r"[0-9a-fA-F]{24}")
 _REFUSED = re.compile(r"line (\d+)(?:, byte \d+)?: (.+)")
 
@@ -80,11 +79,9 @@ def _packed(texts: list[tuple[int, str, str]], name: str, program: str) -> list[
 
 def _key(value: bytes) -> object:
     """What an id is compared by, which has this type and these bytes."""
-    if value[0] in (_INT32, _INT64):
-        return int.from_bytes(value[1:], "little", signed=True)
-    number = number_in(value[:1] + b"\0" + value[1:])
+    number = number_of(value)
     # NaN is not equal to itself.
-    return value if number is None else number if isinstance(number, Fraction) else str(number)
+    return value if number is None else number if is_finite(number) else str(Decimal(number))
 
 
 class _Finding:

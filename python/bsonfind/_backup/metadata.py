@@ -85,8 +85,8 @@ def _metadata_names(name: str) -> list[str]:
 
 
 def metadata_beside(name: str) -> str | None:
-    """The file of metadata of a dump, if there is one."""
-    return next((it for it in _metadata_names(name) if os.path.lexists(it)), None)
+    """The file of metadata of a dump, if there is one. Standard input has none."""
+    return next((it for it in _metadata_names(name) if name != "-" and os.path.lexists(it)), None)
 
 
 def read_metadata(name: str) -> tuple[dict[str, Any] | None, str | None]:

@@ -15,7 +15,7 @@ from .._run.wide import wide_program
 from .backups import Dump
 
 # What one run holds in memory of a larger dump.
-MOST_HELD = 1 << 28
+MOST_HELD = 1 << 27
 
 
 class Found(NamedTuple):

@@ -48,11 +48,13 @@ class Reading:
 
     def _good(self, source: Source, report: Report) -> Batches:
         """The documents without a fault. While some are taken the next ones are checked."""
-        noting, errors, documents = Noting(report, MOST_FAULTS), list[Exception](), 0
+        noting, errors, documents, size = Noting(report, MOST_FAULTS), list[Exception](), 0, 0
         ahead: deque[_Batch] = deque()
         try:
             for offset, first, pieces in inputs(up_to_error(source.pieces(), errors), self._most):
-                ahead.append(_Batch(_joined(pieces, self._most), offset, first, self._program, self._group))
+                data, count = _joined(pieces, self._most)
+                size = offset + count
+                ahead.append(_Batch(data, offset, first, self._program, self._group))
                 if len(ahead) > 1:
                     yield ahead.popleft().good(noting)
             while ahead:
@@ -61,7 +63,7 @@ class Reading:
         finally:
             for batch in ahead:
                 batch.close()
-            noting.end(documents)
+            noting.end(documents, size)
         noting.look(source, self._program, self._group)
         if errors:
             raise errors[0]
@@ -95,11 +97,11 @@ class _Batch:
         self._run.close()
 
 
-def _joined(pieces: Iterable[bytes], most: int) -> bytes:
-    """The bytes of an input. Of one that has more than documents can have, since a length is wrong, the first ones."""
+def _joined(pieces: Iterable[bytes], most: int) -> tuple[bytes, int]:
+    """The bytes of an input, and how many. Of one that has more than documents can have, since a length is wrong, the first ones."""
     kept, size = [], 0
     for piece in pieces:
         if size <= max(most, LONGEST):
             kept.append(piece)
-            size += len(piece)
-    return b"".join(kept)
+        size += len(piece)
+    return b"".join(kept), size

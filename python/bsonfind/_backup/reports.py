@@ -10,7 +10,7 @@ from typing import Any, Iterator, NamedTuple
 from .._dumps.sources import Source
 from .._faults import Fault, NO_DAMAGE
 from .._run.processes import Group
-from .damage import Detail, details_of, is_of_a_length, rest_after
+from .damage import Detail, details_of, is_of_a_length
 
 # How many faults of a file are reported one by one.
 MOST_FAULTS = 10
@@ -138,17 +138,16 @@ class Noting:
             if len(self._report.faults) < self._most:
                 self._report.faults.append(fault)
 
-    def end(self, documents: int, size: int = 0) -> None:
-        """Notes how many documents there were, and how many bytes they have, unpacked."""
-        is_cut = self._last is not None and is_of_a_length(self._last)
-        self._report.documents, self._report.whole = documents, documents - is_cut
-        self._report.bytes = self._last.offset if self._last and is_cut else size
+    def end(self, documents: int, size: int) -> None:
+        """Notes how many documents there were, and how many bytes there were, unpacked."""
+        cut = self._last if self._last and is_of_a_length(self._last) else None
+        self._report.documents, self._report.whole = documents, documents - bool(cut)
+        self._report.bytes = cut.offset if cut else size
+        self._report.rest = max(0, size - self._report.bytes)
         self._report.faults.extend(self._harmless.values())
 
     def look(self, source: Source, program: str, group: Group) -> None:
-        """Notes what can be read of the documents with these faults, of a file that is read as it is."""
-        if self._last and source.size is not None and not source.is_packed:
-            self._report.rest = rest_after(self._last, source.size)
+        """Notes what can be read of the documents with these faults."""
         damage = [it for it in self._report.faults if it.kind not in NO_DAMAGE]
         self._report.details = details_of(source, damage, program, group)
 

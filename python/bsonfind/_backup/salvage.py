@@ -5,7 +5,7 @@ from __future__ import annotations
 import os
 from collections import deque
 from contextlib import ExitStack, nullcontext
-from typing import Callable, ContextManager, Iterator, NamedTuple, Protocol
+from typing import Callable, ContextManager, Iterator, NamedTuple, Union
 
 from .._dumps.outputs import Output, refuse_names
 from .._dumps.sources import Source
@@ -21,6 +21,8 @@ from .window import Window
 _FIRST, _MOST, _MOST_DOCUMENTS = 1 << 16, 1 << 22, 100_000
 # This many runs check at once at most.
 _MOST_AHEAD = 4
+# What takes documents, some after the others.
+Take = Callable[[Union[bytes, memoryview]], object]
 
 
 class LeftOut(NamedTuple):
@@ -85,7 +87,7 @@ def salvage(
             wide_program(program)
             outputs = [files.enter_context(Output(name, source.mode)) for name in names]
             files.enter_context(progress(source))
-            done = Salvaging(source.pieces(), outputs[0], outputs[1], program, say or (lambda _: None)).copy()
+            done = Salvaging(source.pieces(), outputs[0].write, outputs[1].write, program, say or (lambda _: None)).copy()
         except DumpError as error:
             raise DumpError(f"{os.fsdecode(path)}: {error}", error.fault) from error
         for output in outputs:
@@ -97,21 +99,14 @@ def salvage(
     return done
 
 
-class Sink(Protocol):
-    """What takes documents, one after the other."""
-
-    def write(self, data: bytes | memoryview) -> object:
-        """Takes some documents."""
-
-
 class Salvaging:
     """The copying of the documents of a stream to one of two files, by whether they have a fault."""
 
     def __init__(
         self,
         pieces: Iterator[bytes],
-        good: Sink,
-        bad: Sink,
+        good: Take,
+        bad: Take,
         program: str,
         say: Callable[[str], None],
         note: Callable[[Fault], None] = lambda _: None,
@@ -120,7 +115,7 @@ class Salvaging:
     ) -> None:
         """What is left out is said, and the fault of each bad document is noted. One run checks this many bytes at most."""
         self._window = Window(pieces)
-        self._good_file, self._bad_file = good, bad
+        self._take_good, self._take_bad = good, bad
         self._check, self._say, self._note = Check(program, group), say, note
         self._beginnings = Beginnings(self._window, self._check, say)
         self._good = self._bad = 0
@@ -181,16 +176,16 @@ class Salvaging:
         for fault in faults:
             number = fault.document
             begin, end = ends[number - 1] if number else start, ends[number]
-            self._good_file.write(data[at - start : begin - start])
+            self._take_good(data[at - start : begin - start])
             self._good += number - copied
             inside = self._beginnings.inside(begin, end, fault.kind)
             if inside is not None:
                 return self._leave_out(LeftOut(begin, inside, True, True))
-            self._bad_file.write(data[begin - start : end - start])
+            self._take_bad(data[begin - start : end - start])
             self._note(fault.moved(before, start))
             self._bad += 1
             at, copied = end, number + 1
-        self._good_file.write(data[at - start :])
+        self._take_good(data[at - start :])
         self._good += len(ends) - copied
         return ends[-1]
 

@@ -74,7 +74,7 @@ def _salvage_one(
         if about:
             files.enter_context(about)
             about.write(metadata or b"")
-        done = Salvaging(source.pieces(), good, bad, program, say).copy()
+        done = Salvaging(source.pieces(), good.write, bad.write, program, say).copy()
         for output in (good, *([bad] if done.bad else []), *([about] if about else [])):
             output.complete()
             output.put_in_place()

@@ -13,27 +13,18 @@ class Watch(Protocol):
 
     def over(self, source: Source) -> ContextManager[None]:
         """Counts what is read of a source meanwhile."""
-
-    def add_file(self) -> None:
-        """Counts a file that was read."""
-
-    def __enter__(self) -> Any: ...
-
-    def __exit__(self, *_: object) -> None: ...
-
-
-class Unwatched:
-    """A watch that prints nothing."""
-
-    def over(self, source: Source) -> ContextManager[None]:
-        """Counts nothing."""
         return nullcontext()
 
     def add_file(self) -> None:
-        """Counts nothing."""
+        """Counts a file that was read."""
+        return None
 
-    def __enter__(self) -> Unwatched:
+    def __enter__(self) -> Any:
         return self
 
     def __exit__(self, *_: object) -> None:
-        pass
+        return None
+
+
+class Unwatched(Watch):
+    """A watch that prints nothing."""

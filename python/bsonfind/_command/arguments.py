@@ -13,6 +13,8 @@ TYPE_CHECKING = False
 if TYPE_CHECKING:
     from typing import Any, Callable, Sequence
 
+    Argument = tuple[tuple[str, ...], dict[str, Any]]
+
 # The statuses of commands.
 GOOD, FAULTY, FAILED = 0, 1, 2
 # The formats of lines, the first of which is that of all commands.
@@ -23,11 +25,6 @@ MOST = 2_147_483_647
 MOST_FAULTS = 10
 _DIGITS = re.compile(r"\+?[0-9]+", re.ASCII)
 _EPILOG = "COMMAND --help explains a command and its status. ARCHIVE::db.collection names a collection of an archive as a FILE."
-# The status of each command that has the one of the program: 1 for all that failed.
-_AS_THE_PROGRAM = "The status is 0 if all is {}, and 1 if anything failed, such as for a fault of the dump."
-
-# The status of the commands that pass what is faulty.
-_OF_READING = "The status is 0 if all was read, 1 if a document has a fault, which is reported and left out, and else 2."
 
 
 class Refused(Exception):
@@ -58,11 +55,15 @@ def parser(name: str) -> argparse.ArgumentParser:
     main = _Parser(prog=name, epilog=_EPILOG)
     _add_common(main, "bsonfind")
     commands = main.add_subparsers(required=True, metavar="COMMAND")
-    for word, add, about in _COMMANDS:
-        command = commands.add_parser(word, help=about[0].lower() + about[1:-1], description=about)
+    for word, about, epilog, arguments in _COMMANDS:
+        command = commands.add_parser(word, help=about[0].lower() + about[1:-1], description=about, epilog=epilog, usage=_USAGES.get(word))
         _add_common(command, argparse.SUPPRESS)
         command.set_defaults(command=word)
-        add(command)
+        for it in arguments:
+            # Of the options in a list one is taken at most.
+            among = command.add_mutually_exclusive_group() if isinstance(it, list) else command
+            for names, how in it if isinstance(it, list) else [it]:
+                among.add_argument(*names, **how)
     return main
 
 
@@ -101,156 +102,127 @@ def _number(least: int) -> Callable[[str], int]:
     return read
 
 
-def _add_check(command: argparse.ArgumentParser) -> None:
-    command.epilog = _AS_THE_PROGRAM.format("good")
-    _add_dumps(command)
+def _argument(name: str, metavar: str, help: str, **how: Any) -> Argument:
+    """An argument or an option with a value."""
+    return (name,), {"metavar": metavar, "help": help, **how}
 
 
-def _add_dump(command: argparse.ArgumentParser) -> None:
-    command.epilog = f"{_AS_THE_PROGRAM.format('printed')} Unless it is 0, delete what it wrote."
-    command.add_argument("--jsonFormat", choices=FORMATS, default=FORMATS[0], dest="format", help="relaxed: numbers and dates as mongoexport")
-    _add_dumps(command)
+def _of_text(name: str, metavar: str, help: str, **how: Any) -> Argument:
+    return _argument(name, metavar, help, type=_text, **how)
 
 
-def _add_dumps(command: argparse.ArgumentParser) -> None:
-    command.add_argument("files", nargs="+", metavar="FILE", help="a dump of any size, one by mongodump --gzip, or - for standard input")
+def _of_number(name: str, help: str, least: int = 1, default: int | None = None, metavar: str = "N") -> Argument:
+    return _argument(name, metavar, help, type=_number(least), default=default)
 
 
-def _add_pack(command: argparse.ArgumentParser) -> None:
-    command.epilog = f"{_AS_THE_PROGRAM.format('packed')} Unless it is 0, delete what it wrote."
-    command.add_argument("file", metavar="FILE", help="a text with a document on each line, as dump prints it, or - for standard input")
+def _flag(help: str, *names: str) -> Argument:
+    return names, {"action": "store_true", "help": help}
 
 
-def _add_find(command: argparse.ArgumentParser) -> None:
-    command.epilog = f"{_AS_THE_PROGRAM.format('printed')} Unless it is 0, delete what it wrote."
-    command.add_argument("file", metavar="FILE", help="a dump, one by mongodump --gzip, or - for standard input")
-    for name, default, metavar, text in (
-        ("query", "{}", "Q", "a query, as bsonwide find takes it"),
-        ("sort", "{}", "S", "the fields by which documents are sorted"),
-        ("index", None, "PATH", "find documents by an index on this path"),
-        ("after", None, "TOKEN", "resume after the documents that were printed with this token; one of --bson is for --bson"),
-    ):
-        command.add_argument(f"--{name}", default=default, type=_text, metavar=metavar, help=text)
-    for name, number, text in (
-        ("skip", 0, "skip this many documents"),
-        ("limit", 0, "print this many at most"),
-        ("batch", None, "print the next page of this many"),
-    ):
-        command.add_argument(f"--{name}", default=number, type=_number(0), metavar="N", help=text)
-    command.add_argument("--bson", action="store_true", help="print the documents as they are, in BSON")
-
-
-def _add_prepare(command: argparse.ArgumentParser) -> None:
-    command.epilog = _AS_THE_PROGRAM.format("written")
-    command.add_argument("file", metavar="DUMP", help="a dump, or one by mongodump --gzip")
-    command.add_argument("copy", metavar="COPY", help="the file for the copy, as large as the dump; COPY.json is beside it")
-
-
-def _add_audit(command: argparse.ArgumentParser) -> None:
-    command.epilog = "The status is 0 if all is good, 1 if something is faulty, cut or missing, 2 if another file was not read."
-    _add_files(command)
-    command.add_argument("--expect", metavar="LOG", help="compare the counts with those in a log of mongodump")
-    kinds = command.add_mutually_exclusive_group()
-    kinds.add_argument("--json", action="store_true", help="print one line of JSON, and nothing else")
-    kinds.add_argument("--quiet", action="store_true", help="print nothing if all is good, and else nothing of good files")
-    command.add_argument("--jobs", type=_number(1), metavar="N", help="check this many files at once")
-    command.add_argument("--max-faults", type=_number(0), default=MOST_FAULTS, metavar="N", help="print this many faults of a file")
-
-
-def _add_files(command: argparse.ArgumentParser) -> None:
-    command.add_argument("files", nargs="*", metavar="FILE", help="a dump, one by mongodump --gzip, or a directory of such files")
-    command.add_argument("--list", metavar="F", help="also the files whose names are the lines of F")
-
-
-def _add_salvage(command: argparse.ArgumentParser) -> None:
-    command.epilog = "The status is 0 if all is good, 1 if something is faulty or left out, else 2. Keep FILE: G and B lack what is left out."
-    command.add_argument("file", metavar="FILE", help="a damaged dump, one by mongodump --gzip, or a directory of dumps")
-    command.add_argument("--good", metavar="G", help="the file for documents without a fault")
-    command.add_argument("--bad", metavar="B", help="the file for other documents whose length is known")
-    command.add_argument("--out", metavar="DIR", help="of a directory: where the good documents of each dump go, by the same names")
-
-
-def _add_unpack(command: argparse.ArgumentParser) -> None:
-    command.epilog = "The status is 0 if all is whole, 1 if a collection is not, whose file ends in .part, and else 2."
-    command.add_argument("archive", metavar="ARCHIVE", help="a file by mongodump --archive, also with --gzip, or - for a pipe")
-    command.add_argument("directory", nargs="?", default="dump", metavar="DIR", help="where the files go, dump without it")
-    command.add_argument("--only", action="append", type=_text, metavar="DB.COLLECTION", help="write this collection alone; may be repeated")
-    command.add_argument("--no-crc", action="store_true", help="do not compare the CRC-64 of each collection")
-
-
-def _add_compare(command: argparse.ArgumentParser) -> None:
-    command.epilog = "The status is 0 if both have the same documents, in any order, 1 if they differ, and else 2."
-    command.add_argument("first", metavar="A", help="a dump, one by mongodump --gzip, or a directory of such files")
-    command.add_argument("second", metavar="B", help="what it is compared with")
-    command.add_argument("--by", default="_id", type=_text, metavar="PATH", help="the field by which documents belong together, not _id")
-
-
-def _add_query(command: argparse.ArgumentParser) -> None:
-    command.epilog = "The status is 0 if all files were asked, 1 if one has a fault, and 2 if one was not read."
-    _add_files(command)
-    command.add_argument("--query", default="{}", type=_text, metavar="Q", help="a query as bsonfind find takes it")
-    command.add_argument("--jobs", type=_number(1), metavar="N", help="ask this many files at once")
-
-
-def _add_count(command: argparse.ArgumentParser) -> None:
-    command.epilog = _OF_READING
-    _add_dumps(command)
-    command.add_argument("--query", type=_text, metavar="Q", help="count the documents that match this query")
-    command.add_argument("--by", type=_text, metavar="PATH", help="count the documents of each value of this field")
-    command.add_argument("--sum", type=_text, metavar="PATH", help="also add the numbers of this field, exactly")
-    command.add_argument("--json", action="store_true", help="print a line of JSON for each row")
-
-
-def _add_schema(command: argparse.ArgumentParser) -> None:
-    command.epilog = _OF_READING
-    _add_dumps(command)
-    command.add_argument("--sample", type=_number(1), metavar="N", help="look at this many documents, chosen at random")
-    command.add_argument("--json", action="store_true", help="print a line of JSON for each row")
-
-
-def _add_info(command: argparse.ArgumentParser) -> None:
-    command.epilog = "The status is that of audit: 0 if all is good, 1 if something is faulty, cut or missing, 2 if another file was not read."
-    _add_files(command)
-    command.add_argument("--json", action="store_true", help="print a line of JSON for each collection")
-    command.add_argument("--jobs", type=_number(1), metavar="N", help="check this many files at once")
-
-
-def _add_grep(command: argparse.ArgumentParser) -> None:
-    command.epilog = "The status is 0 if all was searched, also if nothing is found, 1 if something is faulty, 2 if a file was not read."
-    command.usage = "%(prog)s [options] TEXT FILE.. | --regex R FILE.."
-    command.add_argument("files", nargs="*", metavar="TEXT FILE", help="a text, an id or a UUID, unless --regex is given; then dumps, archives, directories of these, - for standard input")
-    command.add_argument("--list", metavar="F", help="also the files whose names are the lines of F")
-    command.add_argument("--regex", type=_text, metavar="R", help="a regular expression of Python in place of the text")
-    command.add_argument("-i", "--ignore-case", action="store_true", help="upper and lower case are the same")
-    command.add_argument("--timeout", type=_number(1), default=5, metavar="S", help="the seconds that --regex may take on one text")
-    kinds = command.add_mutually_exclusive_group()
-    kinds.add_argument("--count", action="store_true", help="print how many documents and fields of each file have it")
-    kinds.add_argument("--json", action="store_true", help="print a line of JSON for each field")
-    command.add_argument("--jobs", type=_number(1), metavar="N", help="search by this many processes at once")
-
-
-def _add_ids(command: argparse.ArgumentParser) -> None:
-    command.epilog = "The status is 0 if each id has a document, 1 if one has none, and else 2."
-    command.add_argument("file", metavar="FILE", help="a dump of any size, or one by mongodump --gzip")
-    command.add_argument("--ids", required=True, metavar="F", help="a file of ids: 24 digits a line, or as dump prints them")
-    command.add_argument("--missing", metavar="M", help="write the ids without a document to this file")
-    command.add_argument("--bson", action="store_true", help="print the documents as they are, in BSON")
-
-
-_COMMANDS: Sequence[tuple[str, Callable[[argparse.ArgumentParser], None], str]] = (
-    ("check", _add_check, "Prints each fault of dumps; doubles and decimal128 are none."),
-    ("dump", _add_dump, "Prints the documents of dumps, one a line."),
-    ("pack", _add_pack, "Writes the dump of lines of Extended JSON."),
-    ("find", _add_find, "Prints the documents of a dump that match a query, sorted."),
-    ("prepare", _add_prepare, "Keeps a copy of a dump with doubles or decimal128, for many sessions of Python."),
-    ("audit", _add_audit, "Checks many files, on all processors."),
-    ("salvage", _add_salvage, "Copies each document of a damaged dump to one of two files."),
-    ("unpack", _add_unpack, "Writes the collections of an archive of mongodump to files."),
-    ("compare", _add_compare, "Compares two dumps, or the dumps of two directories."),
-    ("query", _add_query, "Prints the documents of many files that match a query, each with its file."),
-    ("count", _add_count, "Counts documents, of each value of a field too, and adds numbers."),
-    ("schema", _add_schema, "Prints the fields of documents, with their types and values."),
-    ("info", _add_info, "Prints the collections of a backup: documents, bytes, indexes, options."),
-    ("grep", _add_grep, "Prints the fields of many files that have a text, an id or a UUID."),
-    ("ids", _add_ids, "Prints the documents of a file of ids, and reports ids without a document."),
-)
+# The status of each command that has the one of the program: 1 for all that failed.
+_AS_THE_PROGRAM = "The status is 0 if all is {}, and 1 if anything failed, such as for a fault of the dump."
+_PRINTED = f"{_AS_THE_PROGRAM.format('printed')} Unless it is 0, delete what it wrote."
+# The status of the commands that pass what is faulty, and of those that check.
+_OF_READING = "The status is 0 if all was read, 1 if a document has a fault, which is reported and left out, and else 2."
+_OF_CHECKS = "0 if all is good, 1 if something is faulty, cut or missing, 2 if another file was not read."
+_DUMPS = _argument("files", "FILE", "a dump of any size, one by mongodump --gzip, or - for standard input", nargs="+")
+_LIST = _argument("--list", "F", "also the files whose names are the lines of F")
+_FILES = _argument("files", "FILE", "a dump, one by mongodump --gzip, or a directory of such files", nargs="*"), _LIST
+_ROWS = _flag("print a line of JSON for each row", "--json")
+_AS_BSON = _flag("print the documents as they are, in BSON", "--bson")
+_USAGES = {"grep": "%(prog)s [options] TEXT FILE.. | --regex R FILE.."}
+_COMMANDS: Sequence[tuple[str, str, str, Sequence[Argument | list[Argument]]]] = (
+    ("check", "Prints each fault of dumps; doubles and decimal128 are none.", _AS_THE_PROGRAM.format("good"), [_DUMPS]),
+    ("dump", "Prints the documents of dumps, one a line.", _PRINTED, [
+        (("--jsonFormat",), dict(choices=FORMATS, default=FORMATS[0], dest="format", help="relaxed: numbers and dates as mongoexport")),
+        _DUMPS,
+    ]),
+    ("pack", "Writes the dump of lines of Extended JSON.", _PRINTED.replace("printed", "packed"), [
+        _argument("file", "FILE", "a text with a document on each line, as dump prints it, or - for standard input"),
+    ]),
+    ("find", "Prints the documents of a dump that match a query, sorted.", _PRINTED, [
+        _argument("file", "FILE", "a dump, one by mongodump --gzip, or - for standard input"),
+        _of_text("--query", "Q", "a query, as bsonwide find takes it", default="{}"),
+        _of_text("--sort", "S", "the fields by which documents are sorted", default="{}"),
+        _of_text("--index", "PATH", "find documents by an index on this path"),
+        _of_text("--after", "TOKEN", "resume after the documents that were printed with this token"),
+        _of_number("--skip", "skip this many documents", 0, 0),
+        _of_number("--limit", "print this many at most", 0, 0),
+        _of_number("--batch", "print the next page of this many", 0),
+        [_AS_BSON, _flag("print how many documents there are, and none of them", "--count")],
+    ]),
+    ("serve", "Replies to commands about a dump, one a line of standard input.",
+     "The status is 0 if all commands were read, also refused ones, and 1 if anything failed, such as for a fault of the dump.", [
+        _argument("file", "FILE", "a dump, or one by mongodump --gzip"),
+        _flag("take doubles in commands also over a dump without any", "--byValue"),
+    ]),
+    ("audit", "Checks many files, on all processors.", f"The status is {_OF_CHECKS}", [
+        *_FILES,
+        _argument("--expect", "LOG", "compare the counts with those in a log of mongodump"),
+        [
+            _flag("print one line of JSON, and nothing else", "--json"),
+            _flag("print nothing if all is good, and else nothing of good files", "--quiet"),
+        ],
+        _of_number("--jobs", "check this many files at once"),
+        _of_number("--max-faults", "print this many faults of a file", 0, MOST_FAULTS),
+    ]),
+    ("salvage", "Copies each document of a damaged dump to one of two files.",
+     "The status is 0 if all is good, 1 if something is faulty or left out, else 2. Keep FILE: G and B lack what is left out.", [
+        _argument("file", "FILE", "a damaged dump, one by mongodump --gzip, or a directory of dumps"),
+        _argument("--good", "G", "the file for documents without a fault"),
+        _argument("--bad", "B", "the file for other documents whose length is known"),
+        _argument("--out", "DIR", "of a directory: where the good documents of each dump go, by the same names"),
+    ]),
+    ("unpack", "Writes the collections of an archive of mongodump to files.",
+     "The status is 0 if all is whole, 1 if a collection is not, whose file ends in .part, and else 2.", [
+        _argument("archive", "ARCHIVE", "a file by mongodump --archive, also with --gzip, or - for a pipe"),
+        _argument("directory", "DIR", "where the files go, dump without it", nargs="?", default="dump"),
+        _of_text("--only", "DB.COLLECTION", "write this collection alone; may be repeated", action="append"),
+        _flag("do not compare the CRC-64 of each collection", "--no-crc"),
+    ]),
+    ("compare", "Compares two dumps, or the dumps of two directories.",
+     "The status is 0 if both have the same documents, in any order, 1 if they differ, and else 2.", [
+        _argument("first", "A", "a dump, one by mongodump --gzip, or a directory of such files"),
+        _argument("second", "B", "what it is compared with"),
+        _of_text("--by", "PATH", "the field by which documents belong together, not _id", default="_id"),
+    ]),
+    ("query", "Prints the documents of many files that match a query, each with its file.",
+     "The status is 0 if all files were asked, 1 if one has a fault, and 2 if one was not read.", [
+        *_FILES,
+        _of_text("--query", "Q", "a query as bsonfind find takes it", default="{}"),
+        _of_number("--jobs", "ask this many files at once"),
+    ]),
+    ("count", "Counts documents, of each value of a field too, and adds numbers.", _OF_READING, [
+        _DUMPS,
+        _of_text("--query", "Q", "count the documents that match this query"),
+        _of_text("--by", "PATH", "count the documents of each value of this field"),
+        _of_text("--sum", "PATH", "also add the numbers of this field, exactly"),
+        _ROWS,
+    ]),
+    ("schema", "Prints the fields of documents, with their types and values.", _OF_READING, [
+        _DUMPS, _of_number("--sample", "look at this many documents, chosen at random"), _ROWS,
+    ]),
+    ("info", "Prints the collections of a backup: documents, bytes, indexes, options.", f"The status is that of audit: {_OF_CHECKS}", [
+        *_FILES, _flag("print a line of JSON for each collection", "--json"), _of_number("--jobs", "check this many files at once"),
+    ]),
+    ("grep", "Prints the fields of many files that have a text, an id or a UUID.",
+     "The status is 0 if all was searched, also if nothing is found, 1 if something is faulty, 2 if a file was not read.", [
+        _argument("files", "TEXT FILE", "a text, an id or a UUID, unless --regex is given; then dumps, archives, directories of these, - for standard input", nargs="*"),
+        _LIST,
+        _of_text("--regex", "R", "a regular expression of Python in place of the text"),
+        _flag("upper and lower case are the same", "-i", "--ignore-case"),
+        _of_number("--timeout", "the seconds that --regex may take on one text", default=5, metavar="S"),
+        [
+            _flag("print how many documents and fields of each file have it", "--count"),
+            _flag("print a line of JSON for each field", "--json"),
+        ],
+        _of_number("--jobs", "search by this many processes at once"),
+    ]),
+    ("ids", "Prints the documents of a file of ids, and reports ids without a document.",
+     "The status is 0 if each id has a document, 1 if one has none, and else 2.", [
+        _argument("file", "FILE", "a dump of any size, or one by mongodump --gzip"),
+        _argument("--ids", "F", "a file of ids: 24 digits a line, or as dump prints them", required=True),
+        _argument("--missing", "M", "write the ids without a document to this file"),
+        _AS_BSON,
+    ]),
+)  # fmt: skip

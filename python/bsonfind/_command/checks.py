@@ -6,15 +6,17 @@ import os
 import sys
 
 from .._dumps.checking import Checking
-from .._dumps.printing import Printing
+from .._dumps.printing import finish_dump
 from .._dumps.sources import Source
 from .._errors import DumpError
+from .._run.wide import wide_program
+from .arguments import FORMATS
 from .console import Console
 
 
 def check_file(name: str, program: str, console: Console, front: str = "") -> bool:
     """Prints the damage of a dump, as `check` does, each line after a text; gives whether there is none."""
-    if os.path.isdir(name):
+    if name != "-" and os.path.isdir(name):
         raise DumpError(f"cannot read {name}: it is a directory: audit checks all dumps below one")
     faulty = 0
     checking, is_sound = Checking(program), True
@@ -32,17 +34,25 @@ def check_file(name: str, program: str, console: Console, front: str = "") -> bo
     return is_sound and not faulty
 
 
-def dump_file(name: str, program: str, console: Console, front: str = "", format: str = "canonical") -> bool:
+def dump_file(name: str, program: str, console: Console, front: str = "", format: str = FORMATS[0]) -> bool:
     """Prints the documents of a dump, as `dump` does, and what it says after a text; gives whether no document is refused."""
     sys.stdout.flush()
-    printing, refused = Printing(program, stdout=sys.stdout.fileno(), format=format), False
-    try:
-        for _ in printing.lines(name, is_named=not front):
-            pass  # Each run prints by itself.
-    except DumpError as error:
-        if not error.is_finding:
-            raise
-        console.problem(f"{front}{error}")
-        refused = True
-    console.note(f"{front}{printing.documents} objects found")
-    return not refused
+    words = [wide_program(program), "dump", *([] if format == FORMATS[0] else ["--jsonFormat", format]), "-"]
+    documents, is_sound = 0, True
+    with Source(name, is_named=not front) as source:
+        try:
+            for part in source.inputs():
+                with part.run(words, stdout=sys.stdout.fileno()) as run:
+                    documents = part.first
+                    try:
+                        documents += finish_dump(run)
+                    except DumpError as error:
+                        documents += error.fault.document if error.fault else 0
+                        raise error.moved(part.first, part.offset) from None
+        except DumpError as error:
+            if not error.is_finding:
+                raise
+            console.problem(f"{front}{error}")
+            is_sound = False
+    console.note(f"{front}{documents} objects found")
+    return is_sound

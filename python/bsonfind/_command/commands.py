@@ -4,6 +4,8 @@ from __future__ import annotations
 
 import argparse
 import os
+import stat
+from contextlib import suppress
 
 from .._errors import DumpError, is_finding, why
 from .arguments import FAILED, FAULTY, GOOD, Refused
@@ -17,7 +19,7 @@ if TYPE_CHECKING:
     from .._backup.reports import Audit, Report
 
 # The commands with the statuses of the program, in which 1 is all that failed.
-AS_THE_PROGRAM = ("check", "dump", "pack", "find", "prepare")
+AS_THE_PROGRAM = ("check", "dump", "pack", "find", "serve")
 
 
 def run(words: argparse.Namespace) -> int:
@@ -43,7 +45,9 @@ def _run_pack(words: argparse.Namespace) -> int:
     from .._run.wide import wide_program
     from .program import execute
 
-    execute(wide_program(words.program), ["pack", words.file])
+    # A name that begins as an option does is given with its folder.
+    is_like_option = words.file.startswith("-") and words.file != "-"
+    execute(wide_program(words.program), ["pack", os.path.join(os.curdir, words.file) if is_like_option else words.file])
     return FAULTY
 
 
@@ -64,33 +68,38 @@ def _run_each(words: argparse.Namespace, run_one: Callable[[str, str, Console, s
 
 
 def _refuse_twice(names: Sequence[str]) -> None:
-    """Refuses standard input that is named twice: the second time there is nothing left of it."""
-    if names.count("-") > 1:
-        raise Refused("standard input is named twice")
+    """Refuses standard input, and a pipe by any of its names, that is named twice: the second time there is nothing left of it."""
+    from .._dumps.files import file_of
+
+    found: set[object] = set()
+    for name in names:
+        with suppress(OSError):  # Whoever reads it says what is wrong with it.
+            status = os.fstat(0) if name == "-" else os.stat(file_of(name))
+            pipe = stat.S_ISFIFO(status.st_mode) and (status.st_dev, status.st_ino)
+            if not (pipe or name == "-"):
+                continue
+            if pipe in found:
+                raise Refused(f"{'standard input' if name == '-' else name} is named twice")
+            found.add(pipe)
 
 
 def _run_find(words: argparse.Namespace) -> int:
     from .._ask.requests import Request
     from .finding import Finding
 
-    request = Request(words.query, words.sort, words.skip, words.limit)
-    finding = Finding(words.file, request, words.batch, words.index, words.after, words.bson)
-    return GOOD if finding.print(words.program, Console()) else FAULTY
+    if words.count and words.batch is not None:
+        raise Refused("--count does not go with --batch")
+    request, form = Request(words.query, words.sort, words.skip, words.limit), ("--bson",) * words.bson + ("--count",) * words.count
+    finding = Finding(words.file, request, words.program, words.batch, words.index, words.after, form)
+    return GOOD if finding.print(Console()) else FAULTY
 
 
-def _run_prepare(words: argparse.Namespace) -> int:
-    from .._ask.kept import prepare
+def _run_serve(words: argparse.Namespace) -> int:
+    """Becomes the program, which reads commands from standard input; only an error comes back."""
+    from .serving import serve
 
-    console = Console()
-    try:
-        paths = prepare(words.file, words.copy, program=words.program)
-    except DumpError as error:
-        if not error.is_finding:
-            raise
-        console.problem(f"{words.file}: {error}")
-        return FAULTY
-    console.note(f"{words.copy}: codes at {', '.join(paths) or 'no path'}")
-    return GOOD
+    serve(words.file, words.byValue, words.program)
+    return FAULTY
 
 
 def _run_audit(words: argparse.Namespace) -> int:
@@ -220,7 +229,9 @@ def _run_query(words: argparse.Namespace) -> int:
     from .._backup.query import query_dumps
     from .._run.processes import processors
 
-    console, dumps = Console(), dumps_of(_names_in(words))
+    console, named = Console(), _names_in(words)
+    _refuse_twice(named)
+    dumps = dumps_of(named)
     documents, failed, status, names = 0, 0, GOOD, set()
     for name, lines, error in query_dumps(dumps, Request(words.query), words.jobs or processors(), words.program):
         if lines:
@@ -278,11 +289,13 @@ def _run_ids(words: argparse.Namespace) -> int:
 
     console = Console()
     ids = Ids(text_lines(words.ids), words.ids, words.program)
-    if words.missing is not None:
-        refuse_names(words.file, words.missing, words.ids)
     with ExitStack() as files:
-        # It is opened first: if it cannot be written no document is printed.
-        output = None if words.missing is None else files.enter_context(Output(words.missing))
+        output = None
+        if words.missing is not None:
+            refuse_names(words.file, words.missing, words.ids)
+            rights = os.stat(words.ids).st_mode
+            # It is opened first: if it cannot be written no document is printed.
+            output = files.enter_context(Output(words.missing, stat.S_IMODE(rights) if stat.S_ISREG(rights) else None))
         missing = find_ids(words.file, ids, words.program, console.documents, is_bson=words.bson)
         if output:
             output.write("".join(f"{line}\n" for line in missing).encode(errors="surrogateescape"))

@@ -10,7 +10,7 @@ from contextlib import contextmanager
 # As `typing.TYPE_CHECKING`, without `typing`, which takes long to import.
 TYPE_CHECKING = False
 if TYPE_CHECKING:
-    from typing import Iterator
+    from typing import Iterable, Iterator, Sequence
 
     from .._dumps.sources import Source
 
@@ -18,7 +18,7 @@ if TYPE_CHECKING:
 NAME = "bsonkit"
 _UNITS = ((10**12, "TB"), (10**9, "GB"), (10**6, "MB"), (10**3, "kB"))
 # Characters that a terminal obeys, or that end a line, as they are printed.
-_CONTROL = {it: f"\\x{it:02x}" for it in (*range(0x20), 0x7F)}
+_CONTROL = {it: f"\\x{it:02x}" for it in (*range(0x20), *range(0x7F, 0xA0))}
 # The seconds between two lines of progress.
 _TICK = 0.5
 
@@ -91,6 +91,31 @@ def _writing() -> Iterator[None]:
         yield
     except OSError as error:
         raise CannotWrite(f"cannot write: {error.strerror}") from error
+
+
+class Table:
+    """Rows of columns. On a terminal the names of the columns come before the first row."""
+
+    def __init__(self, console: Console, columns: Sequence[str]) -> None:
+        self._console = console
+        self._header = [columns] if sys.stdout.isatty() else []
+
+    def print(self, rows: Iterable[Sequence[str]]) -> None:
+        """Prints rows; a tab or the end of a line in a cell is printed as its number."""
+        lines = [row_of(cells) for cells in rows]
+        if lines:
+            lines[:0] = [row_of(cells) for cells in self._header]
+            self._header = []
+            self._console.documents(lines)
+
+
+def row_of(cells: Sequence[str]) -> bytes:
+    """A line of cells. Names of files are as they are on the disk; what is no UTF-8 and no name of a file is escaped."""
+    text = "\t".join(map(visible, cells)) + "\n"
+    try:
+        return text.encode(errors="surrogateescape")
+    except UnicodeEncodeError:
+        return text.encode(errors="backslashreplace")
 
 
 class Progress:

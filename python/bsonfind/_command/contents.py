@@ -9,14 +9,13 @@ import re
 import warnings
 from contextlib import closing
 
-from .._backup.backups import Dump, dumps_of
+from .._backup.backups import dumps_of
 from .._backup.grep import Hits, Problem, grep_dumps, wanted_of
 from .._backup.info import COLUMNS, info_of
 from .._backup.search import Wanted
 from .._run.processes import processors
 from .arguments import FAILED, FAULTY, GOOD, Refused
-from .console import Console, Progress
-from .table import Table
+from .console import Console, Progress, Table
 
 # The seconds after which a line of progress is printed.
 _PATIENCE = 1.0
@@ -41,7 +40,7 @@ def print_grep(words: argparse.Namespace, text: str, names: list[str]) -> int:
     """Prints where a text is, or how often, and what was not searched."""
     console = Console()
     wanted = _wanted(words, text)
-    dumps = [*dumps_of(it for it in names if it != "-"), *(Dump(it) for it in names if it == "-")]
+    dumps = dumps_of(names)
     items = grep_dumps(dumps, wanted, words.jobs or processors(), words.program, lambda files, size: Progress(console, files, size, _PATIENCE))
     printing = (_Counts if words.count else _Lines if words.json else _Rows)(console)
     documents, status = 0, GOOD

@@ -6,7 +6,7 @@ import json
 from decimal import Decimal
 from functools import partial
 from itertools import islice
-from typing import Iterable, Iterator, Sequence
+from typing import TYPE_CHECKING, Iterable, Iterator, Sequence
 
 from .._backup.count import Count, Row, counted
 from .._backup.reading import Reading, Take
@@ -18,14 +18,15 @@ from .._dumps.numbers import Number, is_finite
 from .._dumps.paths import Path
 from .._run.wide import wide_program
 from .arguments import FAILED, FAULTY, GOOD
-from .console import Console, Progress
-from .table import Table
+from .console import Console, Progress, Table
 
 # The columns of a sum, and what is printed of a document without the field.
 _OF_SUMS, _MISSING = ("sum", "NaN", "infinite", "other"), "missing"
 # How many rows are printed at once, and after how many seconds the progress is.
 _MOST_ROWS, _PATIENCE = 10_000, 1.0
 Cells = Sequence[str]
+if TYPE_CHECKING:
+    from .._backup.matching import Matching
 
 
 class Counting:
@@ -43,8 +44,11 @@ class Counting:
             with Spread(partial(counted, by, add), count.merge) as spread:
                 status, is_read = self._read_matching(spread.add, query)
                 spread.take_rest()
+        elif query is None:
+            status, is_read = self._read(count.take)
         else:
-            status, is_read = self._read_matching(count.take, query)
+            matching = self._matching(query)
+            status, is_read = self._read(lambda documents: count.add(matching.count(documents)), matching.most)
         if is_read:
             names = (*(("value",) if count.is_by else ()), "count", *(_OF_SUMS if count.is_adding else ()))
             self._print(names, self._counts(count.rows(self._program)))
@@ -65,10 +69,13 @@ class Counting:
     def _read_matching(self, take: Take, query: str | None) -> tuple[int, bool]:
         if query is None:
             return self._read(take)
-        from .._backup.matching import MOST, Matching
+        matching = self._matching(query)
+        return self._read(lambda documents: take(matching.of(documents)), matching.most)
 
-        matching = Matching(query, self._program)
-        return self._read(lambda documents: take(matching.of(documents)), MOST)
+    def _matching(self, query: str) -> Matching:
+        from .._backup.matching import Matching
+
+        return Matching(query, self._program)
 
     def _read(self, take: Take, most: int | None = None) -> tuple[int, bool]:
         """Reads the dumps, says what is wrong with them, and gives the status, and whether one was read."""

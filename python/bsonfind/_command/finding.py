@@ -1,44 +1,49 @@
-"""The command `find` over any dump that the program does not open itself: one that is packed, or is asked for in BSON."""
+"""The command `find` over a dump that the program does not open itself: one that is packed, comes by a pipe, or is too large for a run."""
 
 from __future__ import annotations
 
 import os
+import subprocess
 import sys
 from dataclasses import dataclass
 
-from .._ask.lines import Lines, counted
+from .._ask.lines import Lines, counted, finding
 from .._ask.requests import Request
 from .._dumps.framing import LARGEST_INPUT
+from .._dumps.originals import temporary_file
+from .._dumps.parts import MOST
 from .._dumps.sources import Source
 from .._errors import BsonfindError, CommandError, DumpError
-from .._run.processes import Run
-from .._run.wide import wide_program
-from .console import Console
+from .._run.processes import Dump, Run
+from .console import Console, print_text
+
+_BSON, _COUNT = "--bson", "--count"
 
 
 @dataclass
 class Finding:
-    """What is requested of a dump on a command line."""
+    """What is requested of a dump on a command line, by a program. The form is an option of it, none for lines."""
 
     name: str
     request: Request
+    program: str
     batch: int | None = None
     index: str | None = None
     after: str | None = None
-    is_bson: bool = False
+    form: tuple[str, ...] = ()
 
-    def print(self, program: str, console: Console) -> bool:
-        """Prints the documents as lines of JSON, or as they are; returns whether the dump has no fault."""
+    def print(self, console: Console) -> bool:
+        """Prints what is found; returns whether the dump has no fault."""
         if os.path.isdir(self.name):
             raise DumpError(f"cannot read {self.name}: it is a directory: query asks all dumps below one")
         try:
             with Source(self.name, is_named=True) as source:
                 if not source.is_packed and (source.size or 0) > LARGEST_INPUT:
-                    raise DumpError(f"cannot read {self.name}: it has more than {LARGEST_INPUT} bytes: find_parts of Python asks it by parts")
-                if self.is_bson or self.request.is_long:
-                    self._print_found(source, program, console)
+                    self._print_parts(source, console)
+                elif self.request.is_long:
+                    self._print_found(source, console)
                 else:
-                    self._print_lines(source, program)
+                    self._print_all(source)
         except DumpError as error:
             if not error.is_finding:
                 raise
@@ -48,26 +53,54 @@ class Finding:
             raise _Refused(error.line or str(error)) from None
         return True
 
-    def _print_lines(self, source: Source, program: str) -> None:
-        """The program prints by itself."""
+    def _print_all(self, source: Source) -> None:
+        """Has one run print all of it."""
+        page = [f"--{name}={value}" for name, value in (("batch", self.batch), ("after", self.after)) if value is not None]
         sys.stdout.flush()
-        options = (("batch", self.batch), ("index", self.index), ("after", self.after))
-        words = [*self.request.words(), *(f"--{name}={value}" for name, value in options if value is not None)]
-        with Run.over(source.dump(), wide_program(program), "find", words, stdout=sys.stdout.fileno()) as run:
+        with self._run(source.dump(), self.request, *page, *self.form, stdout=sys.stdout.fileno()) as run:
             counted(run)
             source.check()
             if sys.stderr:
                 print(run.messages(), end="", file=sys.stderr)
 
-    def _print_found(self, source: Source, program: str, console: Console) -> None:
-        """Prints documents as they are, or the lines that a session gives."""
-        found, documents = Lines(source, self.request, program, is_bson=self.is_bson, size=self.batch, index=self.index, after=self.after), 0
-        end = b"" if self.is_bson else b"\n"
+    def _print_found(self, source: Source, console: Console) -> None:
+        """Prints what a session finds by a query that no argument can have."""
+        is_bson, documents = _BSON in self.form, 0
+        found = Lines(source, self.request, self.program, is_bson=is_bson, size=self.batch, index=self.index, after=self.after)
         for batch in found.batches():
-            console.documents([it + end for it in batch])
+            if _COUNT not in self.form:
+                console.documents([it if is_bson else it + b"\n" for it in batch])
             documents += len(batch)
+        if _COUNT in self.form:
+            print_text(str(documents))
         token = f", token {found.token}" if found.token else ""
         console.note(f"{documents} documents, {'end' if found.end else 'more'}{token}")
+
+    def _print_parts(self, source: Source, console: Console) -> None:
+        """Asks a file that is too large for one run by parts, and then what these gave, joined in a file without a name."""
+        name = f"cannot read {self.name}: it has more than {LARGEST_INPUT} bytes"
+        if self.batch is not None or self.after is not None or self.request.is_long:
+            raise DumpError(f"{name}, and is asked by parts: leave --batch, --after and long queries out")
+        with self._run(Dump(), self.request, _COUNT) as run:
+            counted(run)  # A refused request is one at once.
+        with temporary_file() as found:
+            for part in source.inputs(MOST):
+                with self._run(part.dump, self.request.of_part(), _BSON, stdout=found.fileno()) as run:
+                    try:
+                        counted(run)
+                    except DumpError as error:
+                        raise error.moved(part.first, part.offset) from None
+            if os.fstat(found.fileno()).st_size > LARGEST_INPUT:
+                raise DumpError(f"{name}, and so do the documents that are found: ask for fewer")
+            found.seek(0)
+            sys.stdout.flush()
+            with self._run(Dump(file=found), self.request, *self.form, stdout=sys.stdout.fileno()) as run:
+                # It has a token of what was joined, which leads nowhere in the file.
+                console.note(f"{counted(run).documents} documents, end")
+
+    def _run(self, dump: Dump, request: Request, *options: str, stdout: int = subprocess.PIPE) -> Run:
+        index = [] if self.index is None else [f"--index={self.index}"]
+        return finding(dump, request, self.program, [*index, *options], stdout=stdout)
 
 
 class _Refused(BsonfindError):

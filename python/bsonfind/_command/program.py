@@ -15,11 +15,17 @@ _IGNORED = (signal.SIGPIPE, signal.SIGXFSZ)
 _LARGEST = 4_294_967_295
 # The first bytes of what is no plain dump: an archive, or a file of gzip, which may hold one.
 _OTHERS = (b"\x6d\xe2\x99\x81", b"\x1f\x8b")
-# The commands of one plain dump that are those of the program, and the one of a text, which the program opens itself.
-_OF_DUMPS, _OF_TEXTS = ("check", "dump", "find"), ("pack",)
-# The option of `dump`, with its values; and those of `find`, each with a text or a number.
+# The commands of one plain dump that are those of the program, the one of a text, which the program opens itself, and the one that
+# reads commands from standard input.
+_OF_DUMPS, _OF_TEXTS, _SERVE = ("check", "dump", "find"), ("pack",), "serve"
+# The option of `serve`.
+BY_VALUE = "--byValue"
+# The option of `dump`, with its values; and those of `find`, each with a text or a number, or with nothing.
 _FORMAT, _FORMATS = "--jsonFormat", ("canonical", "relaxed")
 _TEXTS, _NUMBERS, _MOST = ("--query", "--sort", "--index", "--after"), ("--skip", "--limit", "--batch"), 2_147_483_647
+_FLAGS = ("--bson", "--count")
+# Options that do not go together.
+_EITHER = (("--bson", "--count"), ("--batch", "--count"))
 
 
 def become_program(words: list[str]) -> None:
@@ -31,6 +37,8 @@ def become_program(words: list[str]) -> None:
     rest, program = list(words), "bsonfind"
     if rest[:1] == ["--program"] and len(rest) > 1:
         program, rest = rest[1], rest[2:]
+    if rest[:1] == [_SERVE]:
+        return _become_session(program, rest[1:])
     if not rest or rest[0] not in (*_OF_DUMPS, *_OF_TEXTS):
         return
     command, (files, options) = rest[0], _split(rest[1:])
@@ -38,31 +46,55 @@ def become_program(words: list[str]) -> None:
         return
     file = files[0]
     wide = located_wide(program)
-    if wide is None or not (_has_streams() and (command in _OF_TEXTS or _take_as_input(file)) and says(wide, f"bsonwide {__version__}\n".encode())):
+    if wide and _has_streams() and (command in _OF_TEXTS or _take_as_input(file)):
+        _become(wide, [command, file if command in _OF_TEXTS else "-", *(word for option in options for word in option)])
+
+
+def _become_session(program: str, words: list[str]) -> None:
+    """The same of `serve`, to which the file is passed on as another descriptor."""
+    files, options = ([it for it in words if (it == BY_VALUE) == is_option] for is_option in (False, True))
+    wide = located_wide(program)
+    if len(files) != 1 or files[0].startswith("-") or len(options) > 1 or not (wide and _has_streams()):
         return
-    try:
-        execute(wide, [command, file if command in _OF_TEXTS else "-", *options])
-    except OSError:
-        pass  # The command says why it cannot be started.
+    descriptor = _plain(files[0])
+    if descriptor is not None:
+        os.set_inheritable(descriptor, True)
+        _become(wide, [_SERVE, f"/dev/fd/{descriptor}", *options])
+        os.close(descriptor)
 
 
-def _split(words: list[str]) -> tuple[list[str], list[str]]:
-    """The files of a command line, and its options of `find` with their values. What is none, or has no good value, is among the files."""
+def _become(wide: str, words: list[str]) -> None:
+    """Becomes the program, if that has the version of the package."""
+    if says(wide, f"bsonwide {__version__}\n".encode()):
+        try:
+            execute(wide, words)
+        except OSError:
+            pass  # The command says why it cannot be started.
+
+
+def _split(words: list[str]) -> tuple[list[str], list[list[str]]]:
+    """The files of a command line, and its options, each with its value. What is none, or has no good value, is among the files."""
     files: list[str] = []
-    options: list[str] = []
+    options: list[list[str]] = []
     while words:
         name, equals, value = words[0].partition("=")
         taken = words[: 1 if equals or name not in (*_TEXTS, *_NUMBERS, _FORMAT) else 2]
         del words[: len(taken)]
         value = value if equals or len(taken) == 1 else taken[1]
-        (options if (equals or len(taken) == 2) and _is_option(name, value) else files).extend(taken)
+        if taken[0] in _FLAGS or (equals or len(taken) == 2) and _is_option(name, value):
+            options.append(taken)
+        else:
+            files.extend(taken)
     return files, options
 
 
-def _are_of(command: str, options: list[str]) -> bool:
-    """Whether a command has these options: `dump` that of a format, and `find` the others."""
-    is_format = [it.partition("=")[0] == _FORMAT for it in options]
-    return not options or (command == "find" and not any(is_format)) or (command == "dump" and is_format.count(True) == 1 and len(options) <= 2)
+def _are_of(command: str, options: list[list[str]]) -> bool:
+    """Whether a command has these options, and they go together: `dump` has that of a format, and `find` the others."""
+    names = [it[0].partition("=")[0] for it in options]
+    if command == "dump":
+        return names in ([], [_FORMAT])
+    is_whole = not any(set(it) <= set(names) for it in _EITHER)
+    return not options or (command == "find" and _FORMAT not in names and is_whole)
 
 
 def _is_option(name: str, value: str) -> bool:
@@ -99,18 +131,23 @@ def _has_streams() -> bool:
 
 def _take_as_input(name: str) -> bool:
     """Makes standard input of a plain file; False if it is another one."""
-    try:
-        descriptor = 0 if name == "-" else _opened(name)
-    except (OSError, ValueError):
-        return False  # What reads it says what is wrong with it.
-    if descriptor is None:
-        return False
-    is_plain = _is_plain(descriptor)
+    descriptor = 0 if name == "-" else _plain(name)
     if descriptor:
-        if is_plain:
-            os.dup2(descriptor, 0)
+        os.dup2(descriptor, 0)
         os.close(descriptor)
-    return is_plain
+    return descriptor is not None and (descriptor > 0 or _is_plain(0))
+
+
+def _plain(name: str) -> int | None:
+    """A descriptor of a plain file; None if it is another one."""
+    try:
+        descriptor = _opened(name)
+    except (OSError, ValueError):
+        return None  # What reads it says what is wrong with it.
+    if descriptor is not None and not _is_plain(descriptor):
+        os.close(descriptor)
+        return None
+    return descriptor
 
 
 def _opened(name: str) -> int | None:

@@ -156,11 +156,11 @@ def is_archive(head: bytes) -> bool:
 def documents_of(pieces: Iterator[bytes], namespace: Namespace, listed: list[Listed] | None = None) -> Iterator[bytes]:
     """The documents of one collection of an archive. It is read up to the end of the collection, which is checked.
 
-    The list of the archive is added to another list.
+    Another list becomes that of the archive.
     """
     archive = Archive(pieces)
     if listed is not None:
-        listed += archive.listed
+        listed[:] = archive.listed
     for block in archive.blocks([namespace]):
         if isinstance(block, Documents):
             yield bytes(block.data)

@@ -2,38 +2,16 @@
 
 from __future__ import annotations
 
-import os
 import re
 from typing import Iterator
 
-from .._errors import DumpError, ProgramError
+from .._errors import ProgramError
 from .._faults import Fault, read_fault
 from .._run.processes import Group, Run
 from .._run.wide import wide_program
 from .sources import Input, Source
 
 _COUNTED = re.compile(r"(\d+) documents, (\d+) faulty\n")
-# What `order` says that is read no more.
-NOT_READ = "bsonwide: cannot write"
-# The faults that `bsonfind` alone reports.
-_WIDE = ("double", "decimal128")
-# How many bytes of a file are looked at first: the program refuses a dump only once it has read all of it.
-_HEAD = 1 << 18
-
-
-def is_wide(error: DumpError) -> bool:
-    """Whether a dump was refused for a double or a decimal128."""
-    return error.fault is not None and error.fault.kind in _WIDE
-
-
-def begins_wide(source: Source, program: str, group: Group | None = None) -> bool:
-    """Whether the program refuses a large file for a double or a decimal128 near its beginning."""
-    if not source.is_plain or (source.size or 0) <= _HEAD:
-        return False
-    head = os.pread(source.file.fileno(), _HEAD, 0)
-    with Run([program, "check", "-"], [head], group=group) as run:
-        first = next(faults_of(run), None)
-    return first is not None and first.kind in _WIDE
 
 
 class Checking:

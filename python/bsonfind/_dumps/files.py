@@ -1,22 +1,17 @@
-"""Dumps as runs of the program read them: by the name of a file, or by bytes that go through a pipe.
-
-The name ARCHIVE::db.collection is that of one collection of an archive, unless a file has it.
-"""
+"""The files of dumps by their names. ARCHIVE::db.collection is that of one collection of an archive, unless a file has it."""
 
 from __future__ import annotations
 
 import os
-import select
-from typing import BinaryIO, Iterator, NamedTuple
+from typing import BinaryIO, NamedTuple
 
 from .._errors import DumpError
 from .._names import File, name_of
-from . import gzip
-from .archive import Listed, documents_of, is_archive
+from .archive import is_archive
 from .archive_frames import Namespace
 
 # As many bytes as say what a file is.
-_HEAD = 1 << 12
+HEAD = 1 << 12
 # What is between the name of an archive and that of a collection in it.
 INSIDE = "::"
 
@@ -73,21 +68,10 @@ def is_whole_archive(path: File) -> bool:
     try:
         if os.path.isfile(path):
             with open(path, "rb", buffering=0) as file:
-                return is_archive(file.read(_HEAD))
+                return is_archive(file.read(HEAD))
     except OSError:
         pass  # Whoever reads it says what is wrong with it.
     return False
-
-
-def begins_as_archive(file: BinaryIO, start: int = 0) -> bool:
-    """Whether an open regular file is an archive, by its first bytes."""
-    return is_archive(os.pread(file.fileno(), _HEAD, start))
-
-
-def refuse_archive(name: str, file: BinaryIO, start: int = 0) -> None:
-    """Refuses an open regular file that is an archive, if a dump is read."""
-    if begins_as_archive(file, start):
-        raise DumpError(f"an archive: name one of its collections, {name}{INSIDE}db.collection, or unpack it")
 
 
 def name_in(archive: str, namespace: Namespace) -> str:
@@ -99,29 +83,3 @@ def file_of(path: File) -> str:
     """The file that is opened for a name: the archive, where it is that of a collection of one."""
     member = member_of(path)
     return member.archive if member else name_of(path)
-
-
-def is_packed(path: File) -> bool:
-    """Whether a dump is unpacked as it is read, by its name: by `mongodump --gzip`, or inside an archive."""
-    return os.fsdecode(path).endswith(".gz") or member_of(path) is not None
-
-
-def not_opened(path: File, error: OSError) -> DumpError:
-    """Why a file cannot be opened, as the program says it."""
-    name = os.fsdecode(path)
-    return DumpError(f"cannot read {name}: it is a directory" if isinstance(error, IsADirectoryError) else f"cannot open {name}")
-
-
-def unpacked_of(path: File, pieces: Iterator[bytes], listed: list[Listed] | None = None) -> Iterator[bytes]:
-    """The bytes of a dump that is packed, out of the pieces of its file. The list of an archive is added to another one."""
-    member = member_of(path)
-    return documents_of(pieces, member.namespace, listed) if member else gzip.unpacked(pieces)
-
-
-def read_some(file: BinaryIO, most: int) -> bytes:
-    """The next bytes of an open file, none at its end. One that does not block, as a pipe that `ssh` left, is waited for."""
-    while (piece := file.read(most)) is None:
-        waiting = select.poll()
-        waiting.register(file, select.POLLIN)
-        waiting.poll()
-    return piece

@@ -49,6 +49,29 @@ def walk(file: BinaryIO, start: int = 0, end: int | None = None) -> Iterator[int
         yield at
 
 
+def ends_in(pieces: Iterable[bytes]) -> Iterator[int]:
+    """The place after each document of bytes that pass, by its length alone; a length that is wrong is a `DumpError`."""
+    # The bytes from the next length on, how many passed, where the next length is, and where the last document begins.
+    held, seen, at, start, number = b"", 0, 0, 0, 0
+    for piece in pieces:
+        held, seen = held + piece, seen + len(piece)
+        while at <= seen:
+            if at > start:
+                yield at
+                start, number = at, number + 1
+            if at + 4 > seen:
+                break
+            (length,) = _length_at(held, len(held) - (seen - at))
+            if not SHORTEST <= length <= LONGEST:
+                raise bad(number, at, "bad length")
+            at += length
+        held = held[len(held) - (seen - at) :] if at < seen else b""
+    if at > seen:
+        raise bad(number, start, "bad length")
+    if at < seen:
+        raise bad(number, at, "length cut short")
+
+
 def inputs(pieces: Iterable[bytes], most: int | None = None) -> Iterator[tuple[int, int, Iterator[bytes]]]:
     """Splits bytes between documents, as they pass, into inputs of at most this many bytes, or of as many as a run can read.
 

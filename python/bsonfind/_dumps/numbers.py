@@ -4,12 +4,9 @@ from __future__ import annotations
 
 import struct
 from decimal import Context, Decimal, ROUND_HALF_EVEN
-from fractions import Fraction
 from math import isfinite
 from typing import Union
 
-# The value of a number: of NaN and infinity a Decimal.
-Value = Union[Fraction, Decimal]
 # A number as it is: of a double a float, of a decimal128 a Decimal. Python compares them by their values, exactly.
 Number = Union[int, float, Decimal]
 # The types of numbers in a dump, with how many bytes each has, and the bits of the digits of a decimal128.
@@ -19,18 +16,6 @@ _DIGITS = (1 << 113) - 1
 # As decimal128 rounds: to 34 digits, and no further than its exponents reach.
 DECIMAL128 = Context(prec=34, rounding=ROUND_HALF_EVEN, Emin=-6143, Emax=6144, clamp=1, traps=[])
 _double_at = struct.Struct("<d").unpack_from
-
-
-def number_in(field: bytes) -> Value | None:
-    """The value of a number of a dump, whose field these bytes begin with; None if there is none."""
-    at = field.find(b"\0", 1) + 1
-    size = _SIZES.get(field[0], 0) if at else 0
-    data = field[at : at + size]
-    if not size or len(data) < size:
-        return None
-    number = number_of(field[:1] + data)
-    assert number is not None
-    return Fraction(number) if is_finite(number) else Decimal(number)
 
 
 def number_of(value: bytes) -> Number | None:

@@ -53,10 +53,18 @@ class Output:
             if there and _is_standard_output(there):
                 raise OSError(errno.EBUSY, "it is standard output", name)
             self._beside = os.path.join(os.path.dirname(self._path), f".{os.urandom(8).hex()}.new")
-            self._file = open(self._beside, "xb")
-            mode = stat.S_IMODE(there.st_mode) if there else mode
+            self._create(stat.S_IMODE(there.st_mode) if there else mode)
+
+    def _create(self, mode: int | None) -> None:
+        """Opens the new file, with these rights; before that no other user can. One that cannot have them is not left."""
+        self._file = open(self._beside, "xb", opener=None if mode is None else lambda name, flags: os.open(name, flags, 0o600))
+        try:
             if mode is not None:
-                os.chmod(self._beside, mode)
+                os.fchmod(self._file.fileno(), mode)
+        except OSError:
+            self._file.close()
+            os.unlink(self._beside)
+            raise
 
     @contextmanager
     def _naming(self) -> Iterator[None]:
@@ -108,9 +116,7 @@ class NewOutput(Output):
         self._beside = part
         refuse_there(name, part)
         with self._naming():
-            self._file = open(self._beside, "xb")
-            if mode is not None:
-                os.chmod(self._beside, mode)
+            self._create(mode)
 
     @property
     def path(self) -> str:

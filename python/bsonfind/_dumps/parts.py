@@ -2,17 +2,16 @@
 
 from __future__ import annotations
 
-import struct
 from contextlib import contextmanager
 from dataclasses import dataclass, field
-from typing import BinaryIO, Iterable, Iterator
+from typing import BinaryIO, Iterator
 
 from .._errors import DumpError
 from .._faults import Fault
 from .._names import File, name_of, name_of_file
 from .._numbers import whole
 from .files import FileState
-from .framing import LONGEST, SHORTEST, bad, walk
+from .framing import ends_in
 from .sources import Source
 
 # What a part has at most where nothing else is asked for; a run of `find` holds its part in memory.
@@ -20,7 +19,6 @@ MOST = 1 << 30
 # What a file has at most.
 LARGEST = (1 << 63) - 1
 _PIECE = 1 << 20
-_length_at = struct.Struct("<i").unpack_from
 
 
 @dataclass(frozen=True)
@@ -121,7 +119,10 @@ def plan(path: File, most: int = MOST) -> list[Part]:
     parts: list[Part] = []
     start = first = at = number = 0
     with Source(name_of_file(name), is_named=True) as source:
-        for number, after in enumerate(_ends(source)):
+        if source.size is None:
+            # Each part would open it again.
+            raise DumpError(f"{source.name} is no regular file")
+        for number, after in enumerate(ends_in(source.pieces())):
             if after - start > most and at > start:
                 parts.append(Part(name, start, at - start, first, source.state))
                 start, first = at, number
@@ -129,37 +130,3 @@ def plan(path: File, most: int = MOST) -> list[Part]:
     if at > start:
         parts.append(Part(name, start, at - start, first, source.state))
     return parts
-
-
-def _ends(source: Source) -> Iterator[int]:
-    """The place after each document of a file. What has no size, such as a pipe, cannot be split: each part opens it again."""
-    if source.size is None:
-        raise DumpError(f"{source.name} is no regular file")
-    source.refuse_archive()
-    try:
-        yield from ends_in(source.pieces()) if source.is_packed else walk(source.file)
-    except OSError as error:
-        raise DumpError(f"cannot read {source.name}: {error.strerror}") from error
-
-
-def ends_in(pieces: Iterable[bytes]) -> Iterator[int]:
-    """The place after each document of bytes that pass, by its length alone; a length that is wrong is a `DumpError`."""
-    # The bytes from the next length on, how many passed, where the next length is, and where the last document begins.
-    held, seen, at, start, number = b"", 0, 0, 0, 0
-    for piece in pieces:
-        held, seen = held + piece, seen + len(piece)
-        while at <= seen:
-            if at > start:
-                yield at
-                start, number = at, number + 1
-            if at + 4 > seen:
-                break
-            (length,) = _length_at(held, len(held) - (seen - at))
-            if not SHORTEST <= length <= LONGEST:
-                raise bad(number, at, "bad length")
-            at += length
-        held = held[len(held) - (seen - at) :] if at < seen else b""
-    if at > seen:
-        raise bad(number, start, "bad length")
-    if at < seen:
-        raise bad(number, at, "length cut short")

@@ -3,52 +3,18 @@
 from __future__ import annotations
 
 import re
-import subprocess
 from io import BufferedReader
 from typing import Generator, Iterable, Sequence
 
-from .._errors import DumpError, ProgramError
+from .._errors import ProgramError
 from .._run.processes import Group, Run
 from .._run.wide import wide_program
 from .elements import document_with
-from .sources import Input, Source
 
 Batches = Generator["list[bytes]", None, None]
 _PIECE = 1 << 16
 _FOUND = re.compile(r"(\d+) objects found\n")
 PACKED = re.compile(r"\d+ objects packed\n")
-
-
-class Printing:
-    """The lines of a dump of all types. `documents` is how many were printed by now."""
-
-    def __init__(self, program: str, stdout: int = subprocess.PIPE, format: str = "canonical") -> None:
-        """Where the runs print to a descriptor, no lines are given."""
-        self._words, self._stdout = [wide_program(program), "dump", *formatted(format), "-"], stdout
-        self.documents = 0
-
-    def lines(self, path: str, *, is_named: bool = False) -> Batches:
-        """The lines as they come, of `-` those of standard input. A fault is a `DumpError`, with its place in the dump."""
-        with Source(path, is_named=is_named) as source:
-            yield from self._of(source.inputs())
-            source.check()
-
-    def _of(self, parts: Iterable[Input]) -> Batches:
-        for part in parts:
-            with part.run(self._words, stdout=self._stdout) as run:
-                try:
-                    if self._stdout == subprocess.PIPE:
-                        yield from lines_of(run.stdout)
-                    self.documents = part.first + finish_dump(run)
-                except DumpError as error:
-                    moved = error.moved(part.first, part.offset)
-                    self.documents = moved.fault.document if moved.fault else self.documents
-                    raise moved from None
-
-
-def formatted(format: str) -> list[str]:
-    """The option of `dump` for a format of lines, none for that of all commands."""
-    return [] if format == "canonical" else ["--jsonFormat", format]
 
 
 def lines_of_documents(documents: Sequence[bytes], program: str, group: Group | None = None) -> list[bytes]:

@@ -3,15 +3,16 @@
 from __future__ import annotations
 
 import os
+import select
 import stat
 from typing import Any, BinaryIO, Iterable, Iterator, NamedTuple, Sequence
 
 from .._errors import DumpError
 from .._names import File, name_of
 from .._run.processes import Dump, Run
-from . import framing
-from .archive import Listed
-from .files import FileState, begins_as_archive, file_of, is_packed, member_of, not_opened, read_some, refuse_archive, unpacked_of
+from . import framing, gzip
+from .archive import Listed, documents_of, is_archive
+from .files import HEAD, INSIDE, FileState, member_of
 
 _PIECE = 1 << 18
 
@@ -23,6 +24,11 @@ class Input(NamedTuple):
     first: int
     file: BinaryIO | None
     pieces: Iterator[bytes] | None
+
+    @property
+    def dump(self) -> Dump:
+        """The same, without its place."""
+        return Dump(self.pieces, self.file)
 
     def run(self, words: Sequence[str], **how: Any) -> Run:
         """A run of the program that reads it as standard input."""
@@ -39,8 +45,9 @@ class Source:
     """
 
     def __init__(self, path: File, *, is_named: bool = False) -> None:
-        self.name, self.is_packed = name_of(path), is_packed(path)
-        self._is_named = is_named
+        self.name, self._is_named = name_of(path), is_named
+        self._member = member_of(self.name)
+        self.is_packed = self._member is not None or self.name.endswith(".gz")
         self._file: BinaryIO | None = None
         self.size: int | None = None
         # What says whether a file is still the same.
@@ -50,7 +57,7 @@ class Source:
         self._start = self._read = 0
         # Of a collection of an archive what the list of this says, once it is read.
         self.listed: list[Listed] = []
-        if self.name == "-" or not _is_pipe(self.name):
+        if self.name == "-" or not self._is_pipe():
             status = os.fstat(self.file.fileno())
             if stat.S_ISREG(status.st_mode):
                 self._start = os.lseek(self.file.fileno(), 0, os.SEEK_CUR)
@@ -58,18 +65,30 @@ class Source:
                 self.state, self.mode = FileState.of(self.file), stat.S_IMODE(status.st_mode)
 
     @property
+    def _path(self) -> str:
+        return self._member.archive if self._member else self.name
+
+    def _is_pipe(self) -> bool:
+        try:
+            return stat.S_ISFIFO(os.stat(self._path).st_mode)
+        except OSError:
+            return False  # Whoever opens it says what is wrong with it.
+
+    @property
     def file(self) -> BinaryIO:
         """The open file."""
         if self._file is None:
             try:
-                self._file = _standard_input() if self.name == "-" else open(file_of(self.name), "rb", buffering=0)
+                self._file = _standard_input() if self.name == "-" else open(self._path, "rb", buffering=0)
             except OSError as error:
-                if not self._is_named:
-                    raise DumpError(str(error.strerror)) from error
-                if self.name == "-":
-                    raise DumpError(f"cannot read standard input: {error.strerror}") from error
-                raise not_opened(self.name, error) from error
+                raise DumpError(self._why_not_opened(error) if self._is_named else str(error.strerror)) from error
         return self._file
+
+    def _why_not_opened(self, error: OSError) -> str:
+        """As the program says it."""
+        if self.name == "-":
+            return f"cannot read standard input: {error.strerror}"
+        return f"cannot read {self.name}: it is a directory" if isinstance(error, IsADirectoryError) else f"cannot open {self.name}"
 
     @property
     def is_plain(self) -> bool:
@@ -79,12 +98,12 @@ class Source:
     @property
     def is_archive(self) -> bool:
         """Whether it is an archive, and not one of its collections, by its first bytes. Those of a pipe would be lost."""
-        return self.size is not None and member_of(self.name) is None and begins_as_archive(self.file, self._start)
+        return self.size is not None and self._member is None and is_archive(os.pread(self.file.fileno(), HEAD, self._start))
 
     def refuse_archive(self) -> None:
         """Refuses an archive."""
         if self.is_archive:
-            refuse_archive(self.name, self.file, self._start)
+            raise DumpError(f"an archive: name one of its collections, {self.name}{INSIDE}db.collection, or unpack it")
 
     def dump(self) -> Dump:
         """What a run reads."""
@@ -97,7 +116,11 @@ class Source:
     def pieces(self) -> Iterator[bytes]:
         """All bytes of the dump, unpacked where it is packed. One that is damaged is an `UnpackError` after what comes before."""
         self.refuse_archive()
-        return unpacked_of(self.name, self.raw(), self.listed) if self.is_packed else self.raw()
+        return self.unpacked(self.raw()) if self.is_packed else self.raw()
+
+    def unpacked(self, raw: Iterator[bytes]) -> Iterator[bytes]:
+        """The bytes of a dump that is packed, out of those of its file."""
+        return documents_of(raw, self._member.namespace, self.listed) if self._member else gzip.unpacked(raw)
 
     def inputs(self, most: int | None = None) -> Iterator[Input]:
         """What runs read one after the other, at most this many bytes each; without a number as many as a run can read.
@@ -165,11 +188,13 @@ def _standard_input() -> BinaryIO:
     return open(0, "rb", buffering=0, closefd=False)
 
 
-def _is_pipe(name: str) -> bool:
-    try:
-        return stat.S_ISFIFO(os.stat(file_of(name)).st_mode)
-    except OSError:
-        return False  # Whoever opens it says what is wrong with it.
+def read_some(file: BinaryIO, most: int) -> bytes:
+    """The next bytes of an open file, none at its end. One that does not block, as a pipe that `ssh` left, is waited for."""
+    while (piece := file.read(most)) is None:
+        waiting = select.poll()
+        waiting.register(file, select.POLLIN)
+        waiting.poll()
+    return piece
 
 
 def up_to_error(pieces: Iterable[bytes], errors: list[Exception]) -> Iterator[bytes]:

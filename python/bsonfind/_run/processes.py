@@ -152,7 +152,7 @@ class Run:
         return cls([program, command, "-", *options], dump.pieces, dump.file or subprocess.DEVNULL, **how)
 
     @classmethod
-    def serving(cls, dump: Dump, program: str, group: Group | None = None) -> Run:
+    def serving(cls, dump: Dump, program: str, options: Sequence[str], group: Group) -> Run:
         """A run of `serve`, which reads commands from its standard input, and the dump from another descriptor.
 
         Ctrl-C at the terminal reaches the caller alone, so that the session can continue after it.
@@ -160,7 +160,7 @@ class Run:
         run = cls.__new__(cls)
         streams = {"stdin": subprocess.PIPE, "stdout": subprocess.PIPE, "bufsize": _BUFFER, "start_new_session": True}
         with Descriptor(dump) as descriptor:
-            run._start([program, "serve", descriptor.word], group, {**streams, "pass_fds": descriptor.passed})
+            run._start([program, "serve", descriptor.word, *options], group, {**streams, "pass_fds": descriptor.passed})
             if dump.pieces is not None:
                 run._feed(dump.pieces, descriptor.take_pipe())
         return run
