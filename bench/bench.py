@@ -129,34 +129,14 @@ def file_tasks(program: str, name: str, room: str) -> list[Task]:
     return [Task(command, {OWN: [program, command, file], **others[command]}, alike=alike[command]) for command, file in inputs.items()]
 
 
-class Wide(NamedTuple):
-    """A dump with doubles, and the programs that read it."""
-
-    program: str
-    wide: str
-    dump: str
-
-    def file_tasks(self, lines: str, paths: list[str], room: str) -> list[Task]:
-        """The whole file, `check` first. And `order` by itself."""
-        others = peers.of_files({"check": self.dump, "dump": self.dump, "pack": lines}, room)
-        known = printed([self.wide, "--help"]).decode()
-        return [
-            Task("check", {OWN: [self.wide, "check", self.dump], **others["check"]}),
-            Task("dump", {OWN: [self.wide, "dump", self.dump], **others["dump"]}, alike=["cat", lines]),
-            Task("pack", {OWN: [self.wide, "pack", lines], **others["pack"]}, alike=["cat", self.dump]),
-            *([Task("order alone", {OWN: [self.wide, "order", self.dump, *paths]})] if "bsonwide order" in known else []),
-        ]
-
-    def find_tasks(self, order: dict) -> list[Task]:
-        """Two of the queries, by the package of Python where it reads doubles."""
-        package = ["env", f"PYTHONPATH={ROOT}/python", f"PATH={Path(self.wide).parent}:{os.environ['PATH']}", sys.executable, "-m", "bsonfind"]
-        does_find = not subprocess.run([*package, "find", "--help"], stdout=subprocess.DEVNULL, stderr=subprocess.DEVNULL, check=False).returncode
-        tasks = []
-        for query in peers.queries(order)[:2]:
-            own = {OWN: [*package, "--program", self.program, "find", self.dump, *query.words()]} if does_find else {}
-            others = peers.of_query(query, f"{shlex.quote(self.wide)} dump {shlex.quote(self.dump)}", self.dump)
-            tasks.append(Task(f"find {query.name}", own | others, alike=others.get("dump, jq", []) if own else []))
-        return tasks
+def wide_tasks(kind: str, wide: str, name: str, room: str, one: dict) -> list[Task]:
+    """Those over a dump with doubles: the whole file, and two of the queries."""
+    dump = f"{name}.bson"
+    tasks = file_tasks(wide, name, room)
+    for query in peers.queries(one)[:2] if kind == "priced" else []:
+        others = peers.of_query(query, f"{shlex.quote(wide)} dump {shlex.quote(dump)}", dump)
+        tasks.append(Task(f"find {query.name}", {OWN: [wide, "find", dump, *query.words()], **others}, alike=others.get("dump, jq", [])))
+    return tasks
 
 
 def find_tasks(program: str, dump: str, order: dict) -> list[Task]:
@@ -214,8 +194,7 @@ def tasks_of(kind: str, program: str, wide: str, name: str, room: str) -> list[T
     dump = f"{name}.bson"
     count, one = counted(name)
     if kind in DOUBLES:
-        it = Wide(program, wide, dump)
-        return it.file_tasks(f"{name}.jsonl", DOUBLES[kind], room) + (it.find_tasks(one) if kind == "priced" else [])
+        return wide_tasks(kind, wide, name, room, one)
     tasks = file_tasks(program, name, room)
     if kind == "order":
         tasks += [*find_tasks(program, dump, one), *sort_tasks(program, dump, SORTS), *serve_tasks(program, dump, count)]

@@ -174,8 +174,8 @@ def measured(rng: random.Random, number: int) -> dict[str, Any]:
 
 Kind = Callable[[random.Random, int], dict[str, Any]]
 KINDS: dict[str, Kind] = {kind.__name__: kind for kind in (counter, person, order, article, thread, numbers, wide, link, priced, measured)}
-# The paths of the doubles, by kind.
-DOUBLES = {"priced": ["items.price", "weight", "place"], "measured": ["values"]}
+# The kinds with doubles.
+DOUBLES = ("priced", "measured")
 # Of a hundred documents, where kinds are mixed.
 SHARES: dict[Kind, int] = {counter: 30, person: 35, order: 25, article: 2, thread: 8}
 

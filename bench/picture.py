@@ -25,7 +25,7 @@ def draw(without: Speeds, doubles: Speeds, about: str, file: Path) -> None:
     from matplotlib import pyplot
 
     figure, rows = pyplot.subplots(2, len(without), sharex="col", figsize=(13, 4.8), layout="constrained")
-    for axes, speeds, own in zip(rows, (without, doubles), (OWN, "bsonwide, bsonfind")):
+    for axes, speeds, own in zip(rows, (without, doubles), (OWN, "bsonwide")):
         for axis, of in zip(axes, speeds.values()):
             _draw_bars(axis, {own: of.get(OWN, 0.0)} | {name: speed for name, speed in of.items() if name != OWN}, own)
     for axis, title in zip(rows[0], without):

@@ -10,7 +10,7 @@ _bsonkit() {
 	local word=${COMP_WORDS[COMP_CWORD]} command=${COMP_WORDS[1]} before=${COMP_WORDS[COMP_CWORD - 1]} options
 	COMPREPLY=()
 	if ((COMP_CWORD == 1)); then
-		mapfile -t COMPREPLY < <(compgen -W 'check dump pack find prepare audit salvage unpack compare query count schema info grep ids --help --version' -- "$word")
+		mapfile -t COMPREPLY < <(compgen -W 'check dump pack find serve audit salvage unpack compare query count schema info grep ids --help --version' -- "$word")
 		return
 	fi
 	case $before in
@@ -26,7 +26,8 @@ _bsonkit() {
 	fi
 	case $command in
 	dump) options='--jsonFormat' ;;
-	find) options='--query --sort --index --after --skip --limit --batch --bson' ;;
+	find) options='--query --sort --index --after --skip --limit --batch --bson --count' ;;
+	serve) options='--byValue' ;;
 	audit) options='--list --expect --json --quiet --jobs --max-faults' ;;
 	salvage) options='--good --bad --out' ;;
 	unpack) options='--only --no-crc' ;;

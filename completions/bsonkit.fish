@@ -6,12 +6,12 @@ function __bsonkit_command
     test (count $words) -gt 1; and contains -- $words[2] $argv
 end
 
-set -l commands check dump pack find prepare audit salvage unpack compare query count schema info grep ids
+set -l commands check dump pack find serve audit salvage unpack compare query count schema info grep ids
 complete -c bsonkit -n "not __bsonkit_command $commands" -f -a check -d 'print each fault of dumps'
 complete -c bsonkit -n "not __bsonkit_command $commands" -f -a dump -d 'print the documents of dumps, one a line'
 complete -c bsonkit -n "not __bsonkit_command $commands" -f -a pack -d 'write the dump of lines of Extended JSON'
 complete -c bsonkit -n "not __bsonkit_command $commands" -f -a find -d 'print the documents of a dump that match a query, sorted'
-complete -c bsonkit -n "not __bsonkit_command $commands" -f -a prepare -d 'keep a copy of a dump with doubles or decimal128 for sessions'
+complete -c bsonkit -n "not __bsonkit_command $commands" -f -a serve -d 'reply to commands about a dump'
 complete -c bsonkit -n "not __bsonkit_command $commands" -f -a audit -d 'check many files, on all processors'
 complete -c bsonkit -n "not __bsonkit_command $commands" -f -a salvage -d 'copy each document of a damaged dump to one of two files'
 complete -c bsonkit -n "not __bsonkit_command $commands" -f -a unpack -d 'write the collections of an archive to files'
@@ -34,6 +34,8 @@ complete -c bsonkit -n '__bsonkit_command find' -l skip -x -d 'skip documents'
 complete -c bsonkit -n '__bsonkit_command find' -l limit -x -d 'print at most'
 complete -c bsonkit -n '__bsonkit_command find' -l batch -x -d 'print a page'
 complete -c bsonkit -n '__bsonkit_command find' -l bson -d 'print documents as they are'
+complete -c bsonkit -n '__bsonkit_command find' -l count -d 'print how many there are'
+complete -c bsonkit -n '__bsonkit_command serve' -l byValue -d 'take doubles over a dump without any'
 complete -c bsonkit -n '__bsonkit_command audit' -l list -r -d 'also the files in a list'
 complete -c bsonkit -n '__bsonkit_command audit' -l expect -r -d 'compare with a log of mongodump'
 complete -c bsonkit -n '__bsonkit_command audit' -l json -d 'print one line of JSON'

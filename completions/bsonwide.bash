@@ -36,6 +36,7 @@ _bsonwide_options() {
 				((at += 1))
 			fi
 			;;
+		--byValue) options=${options/ --byValue / } ;;
 		--bson | --count)
 			options=${options/ --bson / }
 			options=${options/ --count / }
@@ -55,7 +56,11 @@ _bsonwide_options() {
 		return
 	fi
 	if [[ -z $is_file_there ]]; then
-		_bsonwide_inputs .bson "$word"
+		if [[ ${COMP_WORDS[1]} == serve ]]; then
+			_bsonwide_files .bson "$word" # the commands come from standard input
+		else
+			_bsonwide_inputs .bson "$word"
+		fi
 	fi
 	if [[ -z $word || $word == -* ]]; then
 		while IFS= read -r option; do
@@ -68,11 +73,12 @@ _bsonwide() {
 	local word=${COMP_WORDS[COMP_CWORD]} command=${COMP_WORDS[1]} before=${COMP_WORDS[COMP_CWORD - 1]} options
 	COMPREPLY=()
 	if ((COMP_CWORD == 1)); then
-		mapfile -t COMPREPLY < <(compgen -W 'dump check pack find serve order --help' -- "$word")
+		mapfile -t COMPREPLY < <(compgen -W 'dump check pack find serve --help' -- "$word")
 		return
 	fi
 	case $command in
 	dump) options=' --jsonFormat ' ;;
+	serve) options=' --byValue ' ;;
 	find) options=' --query --sort --skip --limit --batch --index --after --bson --count ' ;;
 	esac
 	if [[ -n $options ]]; then
@@ -82,9 +88,8 @@ _bsonwide() {
 	# One file, maybe after two hyphens; only commands with options have more words.
 	[[ $COMP_CWORD == 2 || "$COMP_CWORD $before" == '3 --' ]] || return
 	case $command in
-	check | order) _bsonwide_inputs .bson "$word" ;;
+	check) _bsonwide_inputs .bson "$word" ;;
 	pack) _bsonwide_inputs '' "$word" ;;
-	serve) _bsonwide_files .bson "$word" ;; # the commands come from standard input
 	esac
 }
 

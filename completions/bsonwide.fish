@@ -29,18 +29,18 @@ function __bsonwide_needs
 end
 
 complete -c bsonwide -f
-complete -c bsonwide -n 'not __bsonwide_command dump check pack find serve order' -a dump -d 'print each document as a line'
-complete -c bsonwide -n 'not __bsonwide_command dump check pack find serve order' -a check -d 'tell the first fault of each document'
-complete -c bsonwide -n 'not __bsonwide_command dump check pack find serve order' -a pack -d 'turn lines of Extended JSON into a dump'
-complete -c bsonwide -n 'not __bsonwide_command dump check pack find serve order' -a find -d 'print the documents that answer a query, in an order'
-complete -c bsonwide -n 'not __bsonwide_command dump check pack find serve order' -a serve -d 'answer the commands of standard input over a dump'
-complete -c bsonwide -n 'not __bsonwide_command dump check pack find serve order' -a order -d 'rewrite numbers as whole numbers, for bsonfind find and serve'
-complete -c bsonwide -n 'not __bsonwide_command dump check pack find serve order' -s h -l help -d 'print the usage'
-complete -c bsonwide -n '__bsonwide_needs_file dump check pack find order' -a - -d 'standard input'
-complete -c bsonwide -n '__bsonwide_needs_file dump check find serve order' -k -a '(__fish_complete_suffix .bson)'
+complete -c bsonwide -n 'not __bsonwide_command dump check pack find serve' -a dump -d 'print each document as a line'
+complete -c bsonwide -n 'not __bsonwide_command dump check pack find serve' -a check -d 'tell the first fault of each document'
+complete -c bsonwide -n 'not __bsonwide_command dump check pack find serve' -a pack -d 'turn lines of Extended JSON into a dump'
+complete -c bsonwide -n 'not __bsonwide_command dump check pack find serve' -a find -d 'print the documents that answer a query, in an order'
+complete -c bsonwide -n 'not __bsonwide_command dump check pack find serve' -a serve -d 'answer the commands of standard input over a dump'
+complete -c bsonwide -n 'not __bsonwide_command dump check pack find serve' -s h -l help -d 'print the usage'
+complete -c bsonwide -n '__bsonwide_needs_file dump check pack find' -a - -d 'standard input'
+complete -c bsonwide -n '__bsonwide_needs_file dump check find serve' -k -a '(__fish_complete_suffix .bson)'
 complete -c bsonwide -n '__bsonwide_needs_file pack' -F
 complete -c bsonwide -n '__bsonwide_needs dump jsonFormat' -l jsonFormat -x -a 'canonical relaxed' -d 'how numbers and dates are printed'
 complete -c bsonwide -n 'test (commandline -opc)[-1] = --jsonFormat' -a 'canonical relaxed'
+complete -c bsonwide -n '__bsonwide_needs serve byValue' -l byValue -d 'read doubles and decimal128 over any dump'
 complete -c bsonwide -n '__bsonwide_needs find query' -l query -x -d 'the query, as {"age":{"$gte":18}}'
 complete -c bsonwide -n '__bsonwide_needs find sort' -l sort -x -d 'the sort, as {"age":-1}'
 complete -c bsonwide -n '__bsonwide_needs find skip' -l skip -x -d 'pass over N documents'

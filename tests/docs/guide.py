@@ -40,7 +40,7 @@ FAULT = re.compile(r"\b(?:bsonfind|bsonwide|bsonkit): |^\w+\.(?:py|sh|mjs): |, [
 OPTIONAL = re.compile(r"(?:^|\| )(node|pv)\b")
 # A script that imports what a Python may not have.
 IMPORTS = re.compile(r"^(?:import |from bsonfind import .*\bto_)(pandas)$", re.MULTILINE)
-TOKEN = re.compile(r'(, token |"token":")A[\w+/]{59}\b')
+TOKEN = re.compile(r'(, token |"token":")A[\w+/]{59}(?![\w+/])')
 SCRIPTS = (".py", ".sh", ".mjs", ".jq")
 # The lines of a block, without what its commands print.
 MOST_LINES = 15

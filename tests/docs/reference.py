@@ -30,7 +30,7 @@ PAGES = sorted([*ROOT.glob("*.md"), *ROOT.glob("docs/*.md"), ROOT / "python/READ
 # A name in backquotes that is written as code is: `Type`, `some_name`, `Type::name`.
 CODE = re.compile(r"`((?=[^`]*(?:_|::|[a-z][A-Z])|[A-Z][a-z]+`|[A-Z]\w*<)[A-Za-z]\w*(?:::\w+)*)(?:<[^`]*>)?`")
 # Commands, names of formats and of the system, which these pages have in backquotes.
-WORDS = {"bsonfind find", "bsonwide find", "bsonkit", "main", "check", "dump", "pack", "find", "serve", "order", "$oid", '{"$oid":..}'}
+WORDS = {"bsonfind find", "bsonwide find", "bsonkit", "main", "check", "dump", "pack", "find", "serve", "$oid", '{"$oid":..}'}
 
 
 def text_of(path: Path) -> str:
@@ -53,23 +53,8 @@ def names() -> set[str]:
     return found
 
 
-# Of these crates some lemmas have no comment yet, and some definitions stand inside that another crate cites: mended with their next change.
-UNCALLED = ("bd_wide_copy", "bd_wide_query", "bd_wide_rank")
-# Only these crates use them beside their own: they get a comment, or leave `inside`, with the next change of theirs.
-USED_BY_UNCALLED = (
-    "Rattle.bd_value.proofs.PartsLemmas.code_is",
-    "Rattle.bd_bson_check.proofs.ProfileLemmas.others_are_first",
-    "Rattle.bd_wide_number.proofs.CodeLemmas.",
-    "Rattle.bd_wide_number.proofs.LawLemmas.",
-    "Rattle.bd_wide_order.proofs.QueryLemmas.request_read",
-    "Rattle.bd_wide_order.proofs.ReachLemmas.passing_over",
-    "Rattle.bd_wide_dump.specs.inside.Begins.values_in",
-    "Rattle.bd_cli_scan.specs.Run.StopsWithin",
-)
-
-
 def comments() -> Iterator[tuple[bool, str]]:
-    lacking = [(crate, what) for crate, what in reference.missing() if crate not in UNCALLED and not what.startswith(USED_BY_UNCALLED)]
+    lacking = list(reference.missing())
     for _, name in reference.crates():
         found = [what for crate, what in lacking if crate == name]
         yield not found, f"{name}: without a comment: {', '.join(found)}"
@@ -148,8 +133,6 @@ def inside() -> Iterator[tuple[bool, str]]:
     reached = reference.reached()
     for path, it in reference.definitions("specs").items():
         name = path.rpartition(".")[2]
-        if it.crate in UNCALLED or path in USED_BY_UNCALLED:
-            continue
         if not (name.endswith("-prop") or "◌" in name or it.file.stem in ("Unique", "Sound") or it.crate == "bd_io_stdout" or name == "LeafFits"):
             is_inside = "inside" in it.file.parts
             yield is_inside != (path in reached), f"{path} is {'cited from outside' if is_inside else 'cited inside alone'}"

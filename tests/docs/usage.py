@@ -21,7 +21,7 @@ PROGRAMS = ("bsonfind", "bsonwide")
 # Of each completion the lines, or the parts, that offer commands and options, and these in them.
 COMPLETIONS = {
     "{}.bash": (r"(?:compgen -W|options=)\s*'([^']*)'", r"[\w-]+"),
-    "_{}": (r"^\t.*$", r"(?<=^\t')[a-z]+(?=:)|(?<=^\t\t')--\w+(?==)|(?<=\))--\w+(?=[\[=])|(?<=,)--help(?=\})"),
+    "_{}": (r"^\t.*$", r"(?<=^\t')[a-z]+(?=:)|(?<=^\t\t')--\w+(?=[\[=])|(?<=\))--\w+(?=[\[=])|(?<=,)--help(?=\})"),
     "{}.fish": (r"^complete .*$", r"(?<=-a )[a-z]+|-l \w+"),
 }
 

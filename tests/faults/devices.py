@@ -46,7 +46,6 @@ from growths import (
     INT32_LINE,
     INT64,
     IS_WIDE,
-    ORDERED,
     SEVERAL,
     STARVED,
     TALK,
@@ -101,19 +100,9 @@ def checked(parts: list[Part], given: int) -> Ran:
     return Ran(1, shown(read), UNREAD + b"%d documents, %d faulty\n" % (len(read), sum(text != b"" for _, text in read)))
 
 
-def ordered(parts: list[Part], given: int) -> Ran:
-    return Ran(1, shown(whole(parts, given)), UNREAD)
-
-
 def untouched(_: int) -> Ran:
     """Of an input that is read whole before anything is written."""
     return Ran(1, b"", UNREAD)
-
-
-def passed_on(given: int) -> Ran:
-    """What `order` writes of a dump that has a bad length: the documents, and from the length on all bytes."""
-    rest = (joined(ORDER) + REST)[len(joined(ORDER)) : given]
-    return Ran(1, shown(whole(ORDER, given)) + (rest if len(rest) >= 4 else b""), UNREAD)
 
 
 class Case(NamedTuple):
@@ -138,10 +127,6 @@ DOUBLE_FAULT = b"" if IS_WIDE else b'document 0, byte 4, path "d": double\n'
 DUMP = [*NUMBERS, (INT32, INT32_LINE.encode()), (b"\5\0\0\0\0", b"{}\n"), (BINARY, b'{"x":{"$binary":{"base64":"//8=","subType":"02"}}}\n')]
 CHECK = [(DOUBLE, DOUBLE_FAULT), (INT32, b""), (BAD, b'document 2, byte 52, path "a.0.1": bad boolean\n')]
 PACK = [*((line, document) for document, line in NUMBERS), (b'{"a":1}\n', INT32), (b'{"a":2147483648}\n', INT64), (b'{"a":1}\n', INT32)]
-# The second document is {"~n":1,"a":1}.
-ORDER = [(DOUBLE, ORDERED), (INT32, bytes.fromhex("18000000 12 7e6e00 0100000000000000 10 6100 01000000 00"))]
-# A length that no document has, and what follows it.
-REST = b"\1\0\0\0and the rest"
 SESSION = list(zip(lines(TALK)[::2], lines(TALK)[1::2]))
 # What `bsonwide` alone serves: a double, a decimal128 and an int32.
 VALUES_DUMP = DOUBLE + DECIMAL + INT32
@@ -165,8 +150,6 @@ SMALL = of_program(
         Case("find", ["find", FILE, "--sort", '{"a":1}', "--index", "a"], FIVE_DUMP, Ran(0, shown(FIVE), counted(5, "end", 4, FIVE_DUMP, sort='{"a":1}').encode())),
         *FORMS,
         *(Case(f"serve {name}", ["serve", FILE], data, Ran(0, shown(talk), b""), commands=joined(talk)) for name, data, talk in SESSIONS),
-        Case("order", ["order", FILE], joined(ORDER), Ran(0, shown(ORDER), b""), partial(ordered, ORDER)),
-        Case("order of a bad length", ["order", FILE], joined(ORDER) + REST, Ran(0, shown(ORDER) + REST, b""), passed_on),
     ]
 )
 
@@ -185,7 +168,6 @@ TOLD = of_program(
         Case("find in a dump with a fault", ["find", FILE], BAD, refused(FAULT)),
         Case("a bad query", ["find", FILE, "--query", "{"], INT32, refused(b"query: byte 1: not JSON\n")),
         Case("a session over a fault", ["serve", FILE], BAD, refused(FAULT)),
-        Case("a number without a code", ["order", FILE], DECIMAL, refused(b'document 0, byte 4, path "d": not a whole number of 64 bits\n')),
         Case("no such file", ["check", "missing.bson"], b"", refused(b"cannot open missing.bson\n")),
         Case("a directory", ["dump", "."], b"", Ran(1, b"", UNREAD + b"0 objects found\n")),
         Case("no words", [], b"", Ran(2, b"", USAGE.encode())),
@@ -389,12 +371,6 @@ def cut_serve(size: int) -> Ran:
     return refused(fault) if fault else Ran(0, explained(len(read)), b"")
 
 
-def cut_order(size: int) -> Ran:
-    """What is no document is copied."""
-    read, _ = cut(ORDER, size)
-    return Ran(0, shown(read) + joined(ORDER)[len(joined(read)) : size], b"")
-
-
 EXPLAIN = b'{"explain":{}}\n'
 CUTS = {
     "dump": (joined(DUMP), cut_dump),
@@ -402,7 +378,6 @@ CUTS = {
     "pack": (joined(PACK), cut_pack),
     "find": (FIVE_DUMP, cut_find),
     "serve": (FIVE_DUMP, cut_serve),
-    "order": (joined(ORDER), cut_order),
 }
 CUTS = {command: cut for command, cut in CUTS.items() if command in COMMANDS}
 
@@ -560,12 +535,10 @@ def test_endless(tests: Tests, failing: Failing) -> None:
     (failing.room / "five.bson").write_bytes(FIVE_DUMP)
     empty, line = b"\5\0\0\0\0" * 10000, b'{"a":1}\n' * 10000
     faults = b"".join(b'document %d, byte %d, path "": unknown type\n' % (number, 6 * number + 4) for number in range(1000))
-    marked = b"".join(bytes.fromhex("11000000 12 7e6e00") + number.to_bytes(8, "little") + b"\0" for number in range(1000))
     for name, words, data, out in (
         ("dump", ["dump", "-"], empty, b"{}\n" * 1000),
         ("check", ["check", "-"], b"\6\0\0\0\x63\0" * 10000, faults),
         ("serve", ["serve", "five.bson"], EXPLAIN * 1000, explained(5) * 1000),
-        ("order", ["order", "-"], empty, marked),
     ):
         if name in COMMANDS:
             ran = endless(failing, [PROGRAM, *words], data, len(out))
@@ -593,7 +566,7 @@ def test_too_long(tests: Tests, failing: Failing) -> None:
     # A document of 65,537 bytes: 65,535 of them are as many bytes as an input may have.
     one = (65537).to_bytes(4, "little") + b"\2a\0" + (65525).to_bytes(4, "little") + text + b"\0\0"
     part = one * 15
-    last = {"check": b"65535 documents, 0 faulty\n", "dump": b"65535 objects found\n", "order": b""}
+    last = {"check": b"65535 documents, 0 faulty\n", "dump": b"65535 objects found\n"}
     for name in [name for name in last if name in COMMANDS]:
         words: list[object] = [*LIMITED, name, "-"]
         ran = fed(words, part, 4369, b"")

@@ -5,7 +5,7 @@ usage: tests/faults/growths.py [PROGRAM]     The last line is 'N passed, M faile
 
 PROGRAM is ./bsonwide, or ./bsonfind, which runs without it. The inputs and the whole answers are written by hand, or are those of
 examples/; tests/program/tokens.py makes tokens. With a growth refused a run gives the whole answer, where it does without; else it writes
-lines of it from the front (`pack` and `order` documents), tells `bsonfind: no memory`, or the same of `bsonwide`, and nothing
+lines of it from the front (`pack` documents), tells `bsonfind: no memory`, or the same of `bsonwide`, and nothing
 else, and has status 1.
 """
 
@@ -49,8 +49,6 @@ DECIMAL = bytes.fromhex("18000000 13 6400 9600000000000000 0000000000003c30 00")
 DECIMAL_LINE = '{"d":{"$numberDecimal":"1.50"}}\n'
 # {"d":1}, {"d":3} and {"a":1} of int32.
 CODED = bytes.fromhex("0c000000 10 6400 01000000 00 0c000000 10 6400 03000000 00 0c000000 10 6100 01000000 00")
-# {"~n":0,"d":1} of two int64.
-ORDERED = bytes.fromhex("1c000000 12 7e6e00 0000000000000000 12 6400 0100000000000000 00")
 # The second element of an array in an array is a boolean of 2.
 BAD = bytes.fromhex("1c000000 04 6100 14000000 04 3000 0c000000 0a 3000 08 3100 02 00 00 00")
 FIVE = [
@@ -226,7 +224,6 @@ def wide_runs(failing: Failing) -> list[Run]:
     for name, data in (("several.bson", SEVERAL), ("numbers.bson", DOUBLE + DECIMAL + INT32)):
         (failing.room / name).write_bytes(data)
     numbers, number_lines = [DOUBLE, DECIMAL, INT32], lines(DOUBLE_LINE + DECIMAL_LINE + INT32_LINE)
-    refused = 'document 1, byte 20, path "d": not a whole number of 64 bits'
     return [
         Run("dump of numbers", ["dump", "-"], b"".join(numbers), number_lines, "3 objects found\n"),
         Run("dump of numbers, relaxed", ["dump", "-", "--jsonFormat", "relaxed"], b"".join(numbers), lines('{"d":1.0}\n' + DECIMAL_LINE + '{"a":1}\n'), "3 objects found\n"),
@@ -246,8 +243,6 @@ def wide_runs(failing: Failing) -> list[Run]:
         talk("a talk", "several.bson", TALK),
         talk("a talk by value", "numbers.bson", by_value()),
         Run("serve, a bad dump", ["serve", "/dev/stdin"], DOUBLE + BAD, [], f'{NAME}: document 1, byte 40, path "a.0.1": bad boolean\n', 1),
-        Run("order", ["order", "-"], DOUBLE, [ORDERED], ""),
-        Run("order of a number without a code", ["order", "-"], DOUBLE + DECIMAL, [ORDERED], f"{NAME}: {refused}\n", 1),
     ]
 
 

@@ -211,9 +211,10 @@ class Search:
             self.want(full.out.startswith(ran.out), "what is written with little memory")
 
     def least_memory(self) -> int:
-        """The KiB that the system needs to start the program."""
+        """The KiB with which `find` sorts a document or tells that it has no memory: it needs the most stack of all commands."""
         limit = 1024
-        while subprocess.run([*LIMITED, str(limit), PROGRAM, "--help"], capture_output=True).returncode not in (0, 1):
+        words = [PROGRAM, "find", "-", "--sort", '{"age":1}']
+        while subprocess.run([*LIMITED, str(limit), *words], input=self.documents[0], capture_output=True).returncode not in (0, 1):
             limit += 64
         return limit
 

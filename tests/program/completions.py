@@ -21,10 +21,11 @@ from support import ROOT
 
 COMPLETIONS = ROOT / "completions"
 COMMANDS = {"dump", "check", "pack", "find", "serve"}
-OF_WIDE = {"dump", "check", "pack", "find", "serve", "order"}
+OF_WIDE = {"dump", "check", "pack", "find", "serve"}
 OPTIONS = {"--query", "--sort", "--skip", "--limit", "--batch", "--index", "--after"}
 WIDE_OPTIONS = OPTIONS | {"--bson", "--count"}
 FORMAT, FORMATS = {"--jsonFormat"}, {"canonical", "relaxed"}
+BY_VALUE = {"--byValue"}
 DUMPS = {"one.bson", "two.bson", "room/"}
 OTHERS = {"lines.jsonl"}
 HELP = {"-h", "--help"}
@@ -76,7 +77,6 @@ OF_BSONFIND: list[Row] = [
 OF_BSONWIDE: list[Row] = [
     ("", OF_WIDE, HELP),
     ("-", {"--help"}, HELP),
-    ("o", {"order"}, set()),
     ("pack ", DUMPS | OTHERS | {"-"}, set()),
     ("pack l", {"lines.jsonl"}, set()),
     ("pack -- ", DUMPS | OTHERS | {"-"}, set()),
@@ -91,19 +91,15 @@ OF_BSONWIDE: list[Row] = [
     ("dump --jsonFormat r", {"relaxed"}, set()),
     ("dump --jsonFormat relaxed ", DUMPS | {"-"}, OTHERS),
     # The commands of serve come from standard input, so it has no hyphen.
-    ("serve ", DUMPS, OTHERS),
-    ("serve -", set(), set()),
-    ("serve one.bson ", set(), set()),
-    *(
-        row
-        for name in ("check", "order")
-        for row in (
-            (f"{name} ", DUMPS | {"-"}, OTHERS),
-            (f"{name} o", {"one.bson"}, set()),
-            (f"{name} -- ", DUMPS | {"-"}, OTHERS),
-            (f"{name} one.bson ", set(), set()),
-        )
-    ),
+    ("serve ", DUMPS, BY_VALUE | OTHERS),
+    ("serve -", BY_VALUE, set()),
+    ("serve one.bson ", set(), BY_VALUE),
+    ("serve one.bson --byValue ", set(), set()),
+    ("serve --byValue ", DUMPS, OTHERS),
+    ("check ", DUMPS | {"-"}, OTHERS),
+    ("check o", {"one.bson"}, set()),
+    ("check -- ", DUMPS | {"-"}, OTHERS),
+    ("check one.bson ", set(), set()),
     *of_find(WIDE_OPTIONS),
     ("find one.bson --bson --", WIDE_OPTIONS - {"--bson", "--count"}, set()),
     ("find one.bson --count --", WIDE_OPTIONS - {"--bson", "--count", "--batch"}, set()),
@@ -111,7 +107,7 @@ OF_BSONWIDE: list[Row] = [
     ("find --bson ", DUMPS | {"-"}, WIDE_OPTIONS - {"--bson", "--count"} | OTHERS),
 ]
 ROWS = {"bsonfind": OF_BSONFIND, "bsonwide": OF_BSONWIDE}
-KNOWN = COMMANDS | OF_WIDE | WIDE_OPTIONS | FORMAT | FORMATS | DUMPS | OTHERS | HELP | {"-"}
+KNOWN = COMMANDS | OF_WIDE | WIDE_OPTIONS | BY_VALUE | FORMAT | FORMATS | DUMPS | OTHERS | HELP | {"-"}
 PROMPT = "ready> "
 
 

@@ -244,6 +244,19 @@ nested 200 >nested.bson
 (ulimit -s 1024 && run dump nested.bson)
 expect '200 levels in 1 MiB of stack' 0 "$(copies 199 '{"a":'){}$(copies 199 '}')" '1 objects found'
 
+# Where the system does not let the stack grow, a program has 132 KiB of it. The words of the environment are there too.
+in_stack() {
+	# shellcheck disable=SC3045 # each sh that is in use has -s
+	ulimit -s "$1"
+	shift
+	env -i "$program" "$@" >out 2>err
+	echo $? >status
+}
+(in_stack 120 find int32.bson --query '{"a":1}' --sort '{"a":1}' --index a)
+expect 'find in 120 KiB of stack' 0 "$int32" "$(told 1 end int32.bson 0 --query '{"a":1}' --sort '{"a":1}')"
+echo '{"find":{}}' | (in_stack 120 serve five.bson)
+expect 'serve in 120 KiB of stack' 0 "$first" ''
+
 cp "$shop.bson" some.bson
 doublings=6
 while [ "$doublings" -gt 0 ]; do

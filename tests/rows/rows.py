@@ -3,8 +3,8 @@
 
 usage: tests/rows/rows.py [--program PATH].. [FILE..]     The last line is 'N passed, M failed'.
 
-Without --program each row runs over ./bsonfind, those of `order` over ./bsonwide, and those of `check`, `cut` and `pack` over both. A failure
-names its file and line. The kinds are the functions of KINDS.
+Without --program each row runs over ./bsonfind, and those of `check`, `cut` and `pack` over both. A failure names its file and
+line. The kinds are the functions of KINDS.
 A row is JSON whose names may stand twice and in any order that matters; where the form of a text matters it is a string.
 """
 
@@ -370,17 +370,6 @@ def run(program: Program, row: Members) -> int:
     return len(lines)
 
 
-@one_by_one
-def order(program: Program, row: Members) -> int:
-    """{"bytes":HEX,"paths":[PATH..],"output":HEX,"refused":"document 0, byte 4, path \"v\": no double equals it"}: what `bsonwide order`
-    writes of a dump, and why no more, if it refuses a document."""
-    ran = program.beside().run("order", "-", *row.get("paths"), given=bytes_of(row, "bytes"))
-    told = f"bsonwide: {row.get('refused')}\n" if "refused" in row else ""
-    output = bytes_of(row, "output").hex() if "output" in row else ""
-    want((ran.stdout.hex(), ran.stderr.decode(), ran.returncode), (output, told, int(told != "")), "order")
-    return 1
-
-
 def pages(row: Members, size: int, use: str, is_anew: bool, shown: list[str], tied: bytes, numbers: Iterator[int]) -> Iterator[tuple[str, str]]:
     """The commands that ask for an answer, so many documents at a time, and their replies."""
     query, answer, given, token, cursor = text_of(row.get("filter")), row.get("answer"), 0, None, 0
@@ -488,7 +477,6 @@ KINDS: dict[str, Callable[[Program, list[Row]], Came]] = {
     "pack": pack,
     "run": run,
     "search": search,
-    "order": order,
 }
 
 

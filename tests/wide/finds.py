@@ -18,10 +18,10 @@ from pathlib import Path
 
 sys.path[:0] = [str(Path(__file__).resolve().parents[1]), str(Path(__file__).resolve().parents[2] / "python")]
 
-from model.answers import BadFilter, Dump, Request, Value, check_filter, path_fault, sort_pairs
+from model.answers import BadFilter, Dump, Request, check_filter, path_fault, sort_pairs
 from support import PROGRAM as BUILT
 from support import Tests, usage_of
-from questions import WideInputs
+from questions import WideInputs, some_types
 
 PROGRAM = str(Path(sys.argv[1]).resolve()) if len(sys.argv) > 1 else str(BUILT.with_name("bsonwide"))
 DUMPS = int(sys.argv[2]) if len(sys.argv) > 2 else 40
@@ -31,22 +31,6 @@ REQUESTS = 20
 TYPES = "bsonwide: query: the types of numbers are not told apart here\n"
 USAGE = usage_of("bsonwide")
 COUNTS = re.compile(r"([0-9]+) documents, (end|more)(?:, token (\S+))?\n")
-NUMBERS = {"double": 1, "int": 16, "long": 18, "decimal": 19}
-
-
-def named_types(value: Value) -> bool:
-    """Whether a `$type` anywhere in a query names some of the four types of numbers, but not all."""
-    if value.kind == "object":
-        return any((name == "$type" and is_some(it)) or named_types(it) for name, it in value.of)
-    if value.kind == "javascriptWithScope":
-        return named_types(value.of[1])
-    return value.kind == "array" and any(map(named_types, value.of))
-
-
-def is_some(operand: Value) -> bool:
-    members = [it.of for it in (operand.of if operand.kind == "array" else [operand])]
-    found = [name for name, number in NUMBERS.items() if name in members or number in members or "number" in members]
-    return 0 < len(found) < 4
 
 
 def documents_of(dump: bytes) -> list[bytes]:
@@ -106,7 +90,7 @@ class Finding:
             self.forms(name, words, (status, said), b"", b"")
         elif said == TYPES:
             self.refused += 1
-            self.tests.want(name, (status, found) == (1, []) and named_types(query), status)
+            self.tests.want(name, (status, found) == (1, []) and some_types(query), status)
             self.forms(name, words, (status, said), b"", b"")
         else:
             places = model.answer(request)

@@ -25,8 +25,7 @@ from model.answers import Dump, Request, Value, obj, read_token, written
 from model.sessions import Refused, Session
 from support import PROGRAM as BUILT
 from support import Tests
-from questions import WideInputs
-from finds import named_types
+from questions import WideInputs, some_types
 
 PROGRAM = str(Path(sys.argv[1]).resolve()) if len(sys.argv) > 1 else str(BUILT.with_name("bsonwide"))
 OTHER = str(Path(PROGRAM).with_name("bsonfind"))
@@ -80,7 +79,7 @@ class WideSession(Session):
     def request(self, fields: dict[str, Value], query: str) -> tuple[Request, Value]:
         """A filter that names some of the types of numbers is refused after all that is wrong with the request."""
         made = super().request(fields, query)
-        if named_types(fields.get(query, obj())):
+        if some_types(fields.get(query, obj())):
             raise Refused("numbers", TYPES)
         return made
 

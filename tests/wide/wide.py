@@ -5,7 +5,6 @@ usage: tests/wide/wide.py [PROGRAM] [DOCUMENTS]     The last line is 'N passed, 
 """
 
 import random
-import re
 import struct
 import subprocess
 import sys
@@ -17,7 +16,7 @@ sys.path.insert(0, str(Path(__file__).resolve().parents[1]))
 from model.answers import decimal_of, double_text
 from model.dumps import LONGEST
 from model.inputs import a_decimal, a_double
-from model.wide import check, dump, order
+from model.wide import check, dump
 from support import ROOT, Tests, usage_of
 
 PROGRAM = Path(sys.argv[1]).resolve() if len(sys.argv) > 1 else ROOT / "bsonwide"
@@ -50,39 +49,6 @@ def four(count: int) -> bytes:
 
 def document(body: bytes) -> bytes:
     return four(len(body) + 5) + body + b"\0"
-
-
-# The paths of the numbers of the small dump.
-PATHS = (b"d", b"o.e", b"i*10")
-# Codes by IEEE 754: the bits of the double, with the sign of the number. None: no double equals it.
-CODES = {
-    (1, struct.pack("<d", 1.5)): 0x3FF8 << 48, (1, struct.pack("<d", -1.5)): -(0x3FF8 << 48), (1, bytes(8)): 0,
-    (1, bytes(7) + b"\x80"): 0, (1, struct.pack("<d", float("nan"))): -(1 << 63), (1, b"\1" + bytes(5) + b"\xf0\xff"): -(1 << 63),
-    (1, struct.pack("<d", float("inf"))): 0x7FF0 << 48, (1, struct.pack("<d", float("-inf"))): -(0x7FF0 << 48),
-    (1, struct.pack("<d", 5e-324)): 1, (1, struct.pack("<d", -5e-324)): -1,
-    (1, struct.pack("<d", 1.7976931348623157e308)): 0x7FEFFFFFFFFFFFFF, (1, struct.pack("<d", 2.0**53)): 0x4340 << 48,
-    (16, four(0)): 0, (16, four(1)): 0x3FF0 << 48, (16, b"\xff\xff\xff\xff"): -(0x3FF0 << 48),
-    (18, struct.pack("<q", 2**53)): 0x4340 << 48, (18, struct.pack("<q", 2**53 + 1)): None,
-    (18, struct.pack("<q", 2**53 + 2)): (0x4340 << 48) + 1, (18, struct.pack("<q", -(2**63))): -(0x43E0 << 48),
-    (18, struct.pack("<q", 2**63 - 1)): None, (19, struct.pack("<QQ", 5, 0x303E << 48)): 0x3FE0 << 48,
-    (19, struct.pack("<QQ", 1, 0x303E << 48)): None, (19, struct.pack("<QQ", 0, 0xB040 << 48)): 0,
-    (19, struct.pack("<QQ", 15, 0xB03E << 48)): -(0x3FF8 << 48), (19, struct.pack("<QQ", 1, 0x3046 << 48)): 0x408F400000000000,
-    (19, struct.pack("<QQ", 1, 0x5FFE << 48)): None, (19, struct.pack("<QQ", 0, 0x7C00 << 48)): -(1 << 63),
-    (19, struct.pack("<QQ", 0, 0x7800 << 48)): 0x7FF0 << 48, (19, struct.pack("<QQ", 0, 0xF800 << 48)): -(0x7FF0 << 48),
-    (19, struct.pack("<QQ", 0, 0x6C10 << 48)): 0, (19, struct.pack("<QQ", 1, 0)): None,
-}  # fmt: skip
-# Numbers without a code for them: of 64 bits, or times a power of ten.
-WHOLES = {
-    ((1, struct.pack("<d", 3.0)), b""): 3, ((1, struct.pack("<d", 3.5)), b""): None, ((1, bytes(7) + b"\x80"), b""): 0,
-    ((1, struct.pack("<d", -(2.0**63))), b""): -(2**63), ((1, struct.pack("<d", 2.0**63)), b""): None,
-    ((1, struct.pack("<d", float("nan"))), b""): None, ((1, struct.pack("<d", float("inf"))), b""): None,
-    ((19, struct.pack("<QQ", 2**63 - 1, 0x3040 << 48)), b""): 2**63 - 1, ((19, struct.pack("<QQ", 2**63, 0x3040 << 48)), b""): None,
-    ((19, struct.pack("<QQ", 2**63, 0xB040 << 48)), b""): -(2**63), ((19, struct.pack("<QQ", 1, 0x3064 << 48)), b""): 10**18,
-    ((19, struct.pack("<QQ", 499, 0x303C << 48)), b"*100"): 499, ((19, struct.pack("<QQ", 499, 0x303C << 48)), b"*10"): None,
-    ((19, struct.pack("<QQ", 499, 0x303C << 48)), b"*1000"): 4990, ((1, struct.pack("<d", 4.99)), b"*100"): None,
-    ((1, struct.pack("<d", 0.125)), b"*1000"): 125, ((16, four(7)), b"*1000000000000000000"): 7 * 10**18, ((16, four(7)), b"*1"): 7,
-    ((18, struct.pack("<q", 10)), b"*1000000000000000000"): None, ((19, struct.pack("<QQ", 0, 0x7C00 << 48)), b"*10"): None,
-}  # fmt: skip
 
 
 def a_date() -> bytes:
@@ -156,79 +122,9 @@ def longest(size: int) -> bytes:
     return document(b"\x01a\0" + struct.pack("<d", 0.1) + b"\x02b\0" + four(text) + b"x" * (text - 1) + b"\0" + b"\x13c\0" + bytes(16))
 
 
-def ran(command: str, data: bytes, *paths: bytes) -> tuple[bytes, bytes, int]:
-    made = subprocess.run([PROGRAM, command, "-", *paths], input=data, capture_output=True, check=False)
+def ran(command: str, data: bytes, *options: bytes) -> tuple[bytes, bytes, int]:
+    made = subprocess.run([PROGRAM, command, "-", *options], input=data, capture_output=True, check=False)
     return made.stdout, made.stderr, made.returncode
-
-
-def ordered(data: bytes, *paths: bytes) -> tuple[bytes, bytes, int]:
-    """What `order` is to write, to tell and to end with."""
-    made, fault = order(data, list(paths))
-    return made, f"bsonwide: {fault}\n".encode(errors="surrogateescape") if fault else b"", int(fault != "")
-
-
-def int64(name: bytes, value: int) -> bytes:
-    return b"\x12" + name + b"\0" + value.to_bytes(8, "little", signed=True)
-
-
-def order_numbers(tests: Tests) -> None:
-    """Each number of the tables, alone and inside others, at a path and elsewhere."""
-    for (kind, value), code in CODES.items():
-        data = document(bytes([kind]) + b"a\0" + value)
-        refused = b'bsonwide: document 0, byte 4, path "a": no double equals it\n'
-        wanted = (document(int64(b"~n", 0) + int64(b"a", code)), b"", 0) if code is not None else (b"", refused, 1)
-        tests.want(f"order, the code of {kind}, {value.hex()}", ran("order", data, b"a") == wanted == ordered(data, b"a"), ran("order", data, b"a"))
-    for ((kind, value), power), whole in WHOLES.items():
-        element = bytes([kind]) + b"a\0" + value
-        data = document(b"\x04l\0" + document(b"\x030\0" + document(element)))
-        refused = b'bsonwide: document 0, byte 18, path "l.a": not a whole number of 64 bits\n'
-        inner = b"\x04l\0" + document(b"\x030\0" + document(int64(b"a", whole or 0)))
-        wanted = (document(int64(b"~n", 0) + inner), b"", 0) if whole is not None else (b"", refused, 1)
-        paths = [b"l.a" + power] if power else [b"l"]
-        tests.want(f"order, {kind}, {value.hex()} {power.decode()}", ran("order", data, *paths) == wanted == ordered(data, *paths), ran("order", data, *paths))
-
-
-def order_paths(tests: Tests) -> None:
-    """What is a path, which of two counts, and how one is told."""
-    half = b"\x01%s\0" + struct.pack("<d", 0.5)
-    scope = four(1) + b"\0" + document(half % b"s")
-    for element, path in (
-        (half % b"", b""), (half % b"a.b", b"a.b"), (b"\x03a\0" + document(half % b"b"), b"a.b"), (half % b"a*b", b"a*b*1000"),
-        (b"\x0fc\0" + four(len(scope) + 4) + scope, b"c.$scope.s"), (b"\x03\0" + document(half % b""), b"."), (half % b"a*7", b"a*7"),
-        (b"\x04a\0" + document(b"\x041\0" + document(half % b"2")), b"a"), (half % b"a*10000000000000000000", b"a*10000000000000000000"),
-        (half % "\u00e9".encode(), "\u00e9".encode()),
-    ):  # fmt: skip
-        data = document(element)
-        tests.want(f"order, path {path!r}", ran("order", data, path) == ordered(data, path) and ran("order", data, path)[2] == 0, ran("order", data, path))
-        for other in (b"b", path + b".", path + b"*1", b"*1" + path):
-            tests.want(f"order, path {path!r} by {other!r}", ran("order", data, other) == ordered(data, other), ran("order", data, other))
-    for paths, code in (((b"a*10", b"a"), 5), ((b"a", b"a*10"), 0x3FE0 << 48), ((b"b", b"a*100", b"a*10"), 50)):
-        wanted = (document(int64(b"~n", 0) + int64(b"a", code)), b"", 0)
-        tests.want(f"order, {paths}", ran("order", document(half % b"a"), *paths) == wanted)
-    for name, shown in ((b'"\\', b'"\\"\\\\"'), (b"\n\t\x01\x1f\x7f", b'"\\n\\t\\u0001\\u001f\x7f"'), (b"\xff\xc3", b'"\xff\xc3"')):
-        data = document(b"") + document(b"\x10i\0" + four(1) + half % name)
-        told = b"bsonwide: document 1, byte 16, path " + shown + b": not a whole number of 64 bits\n"
-        tests.want(f"order, the path {name!r}", ran("order", data) == (document(int64(b"~n", 0)), told, 1), ran("order", data))
-    for over in (0, 1):
-        size = LONGEST - 16 + over
-        data = document(b"\x02a\0" + four(size - 19) + bytes(size - 20) + b"\0" + b"\x10b\0" + four(7))
-        told = b"bsonwide: document 0: document too long\n" if over else b""
-        made = ran("order", data, b"b")
-        tests.want(f"order, {len(data)} bytes", made == ordered(data, b"b") and made[1:] == (told, over), made[1:])
-
-
-def order_damage(tests: Tests) -> None:
-    """A last value that goes past the end of its document has the same fault in the copy, 12 bytes later."""
-    price = b"\x01price\0" + struct.pack("<d", 1.5)
-    for body, fault in (
-        (b"\x07a\0", 'byte 19, path "a": value cut short'),
-        (price + b"\x02item\0" + four(16) + b"pen\0", 'byte 37, path "item": bad string length'),
-        (b"\x05a\0" + four(15) + b"\0xyz", 'byte 19, path "a": bad binary length'),
-        (b"\x0ca\0" + four(2) + b"x\0", 'byte 25, path "a": value cut short'),
-    ):
-        made = ran("order", document(body), b"price")
-        checked = ran("check", made[0])
-        tests.want(f"order, {fault}", made[1:] == (b"", 0) and checked[0] == f"document 0, {fault}\n".encode(), (made[1:], checked))
 
 
 def main() -> int:
@@ -268,35 +164,19 @@ def main() -> int:
         tests.want(f"dump, {name}", made == dump(data), made[1:])
         made = ran("dump", data, b"--jsonFormat", b"relaxed")
         tests.want(f"dump, relaxed, {name}", made == dump(data, is_relaxed=True), made[1:])
-        for paths in ([], PATHS):
-            made = ran("order", data, *paths)
-            tests.want(f"order, {name}, {len(paths)} paths", made == ordered(data, *paths), made[1:])
-    order_numbers(tests)
-    order_paths(tests)
-    order_damage(tests)
-    orders = {
-        paths: b"".join(it for it in (damaged(a_document(RNG.choice([0, 1, 2, 4]))) for _ in range(DOCUMENTS)) if not order(it, list(paths))[1])
-        for paths in ((), PATHS, (b"*1000", b"a", b"b*10", b"c", b"$", b".", b"~", b"a.", b"b.a", b"c.c"))
-    }
-    for paths, data in orders.items():
-        made = ran("order", data, *paths)
-        tests.want(f"order, documents that are taken, {len(paths)} paths", made == ordered(data, *paths) and made[2] == 0 and data, made[1:])
-        told, wanted = (re.sub(rb"byte \d+, ", b"", it) for it in (ran("check", made[0])[0], check(data)[0]))
-        tests.want(f"order and check, {len(paths)} paths", told == wanted, (told, wanted))
 
     for words, status, out, err in (
         ([], 2, b"", USAGE), (["check"], 2, b"", USAGE), (["sort", "-"], 2, b"", USAGE), (["check", "-", "-"], 2, b"", USAGE),
-        (["order"], 2, b"", USAGE), (["order", "absent", "a", "b"], 1, b"", b"bsonwide: cannot open absent\n"),
-        (["order", "-", "--", "-a"], 0, b"", b""), (["order", "-", "-a"], 2, b"", USAGE), (["--help"], 0, USAGE, b""), (["dump", "-h"], 0, USAGE, b""),
+        (["--help"], 0, USAGE, b""), (["dump", "-h"], 0, USAGE, b""),
         (["check", "absent"], 1, b"", b"bsonwide: cannot open absent\n"), (["check", "--", "-x"], 1, b"", b"bsonwide: cannot open -x\n"),
-        (["order", "/"], 1, b"", b"bsonwide: cannot read\n"), (["check", "/"], 1, b"", b"bsonwide: cannot read\n0 documents, 0 faulty\n"),
+        (["check", "/"], 1, b"", b"bsonwide: cannot read\n0 documents, 0 faulty\n"),
         (["dump", "-", "--jsonFormat", "canonical"], 0, b"", NONE), (["dump", "--jsonFormat=relaxed", "-"], 0, b"", NONE),
         (["dump", "-", "--jsonFormat", "Relaxed"], 2, b"", USAGE), (["dump", "-", "--jsonFormat", ""], 2, b"", USAGE),
         (["dump", "-", "--jsonFormat"], 2, b"", USAGE), (["check", "-", "--jsonFormat", "relaxed"], 2, b"", USAGE),
         (["dump", "-", "--jsonFormat", "relaxed", "--jsonFormat", "relaxed"], 2, b"", USAGE),
         (["serve"], 2, b"", USAGE), (["serve", "-"], 2, b"", USAGE), (["serve", "--", "-"], 2, b"", USAGE), (["serve", "-", "-"], 2, b"", USAGE),
         (["serve", "absent"], 1, b"", b"bsonwide: cannot open absent\n"), (["serve", "/"], 1, b"", b"bsonwide: cannot read\n"),
-        (["mask", "-"], 2, b"", USAGE), (["wrap", "-"], 2, b"", USAGE), (["--version"], 0, VERSION, b""), (["--version", "-"], 2, b"", USAGE),
+        (["mask", "-"], 2, b"", USAGE), (["wrap", "-"], 2, b"", USAGE), (["order", "-"], 2, b"", USAGE), (["--version"], 0, VERSION, b""), (["--version", "-"], 2, b"", USAGE),
     ):  # fmt: skip
         got = subprocess.run([PROGRAM, *words], input=b"", capture_output=True, check=False)
         tests.want(f"words {words}", (got.returncode, got.stdout, got.stderr) == (status, out, err), got)
