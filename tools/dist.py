@@ -37,8 +37,8 @@ DEBIAN_NAMES = {
     "usr/share/zsh/site-functions/_bsonkit": "usr/share/zsh/vendor-completions/_bsonkit",
 }
 PROGRAMS = ("bsonfind", "bsonwide")
-# The command that is a script, and its first line in a package of Debian, which names the system's Python.
-SCRIPT, FIRST_LINE = "usr/bin/bsonkit", "#!/usr/bin/python3"
+# The command that is a script, and the Python that it starts, which in a package of Debian is that of the system.
+SCRIPT, PYTHON, DEBIAN_PYTHON = "usr/bin/bsonkit", "exec python3 ", "exec /usr/bin/python3 "
 
 
 class Refused(Exception):
@@ -114,8 +114,8 @@ def make_deb(number: str, time: int, stage: Path) -> Path:
         (stage / debian).parent.mkdir(exist_ok=True)
         (stage / name).rename(stage / debian)
     (stage / "usr/share/zsh/site-functions").rmdir()
-    lines = (stage / SCRIPT).read_text(encoding="ascii").split("\n")
-    (stage / SCRIPT).write_text("\n".join([FIRST_LINE, *lines[1:]]), encoding="ascii")
+    script = (stage / SCRIPT).read_text(encoding="ascii")
+    (stage / SCRIPT).write_text(script.replace(PYTHON, DEBIAN_PYTHON), encoding="ascii")
     documents = stage / "usr/share/doc/bsonfind"
     (documents / "CHANGELOG.md").unlink()
     packed = {documents / "changelog": debian_changelog(maintainer).encode()}

@@ -53,6 +53,12 @@ class Room(unittest.TestCase):
         path.chmod(0o755)
         return str(path)
 
+    def kit(self) -> Path:
+        """The script `bsonkit`, which finds the package here."""
+        path = self.file((ROOT / "packaging/bsonkit").read_bytes().replace(b"@PACKAGES@", str(PACKAGE).encode()), "bsonkit")
+        path.chmod(0o755)
+        return path
+
     def wide(self, text: str) -> str:
         """The program, with a script in place of `bsonwide` beside it."""
         self.script(text, "bsonwide")

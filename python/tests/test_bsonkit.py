@@ -7,7 +7,7 @@ import re
 import signal
 import subprocess
 import sys
-from typing import Dict, List, Set, Tuple
+from typing import Dict, List, Optional, Set, Tuple
 
 from bsonfind import __version__
 from bsonfind._command.arguments import parser
@@ -89,9 +89,7 @@ class Arguments(Room):
 
     def test_names(self) -> None:
         """One name for the script; the module is the same thing."""
-        kit = self.room / "bsonkit"
-        kit.write_text((ROOT / "packaging/bsonkit").read_text().replace("@PACKAGES@", str(ROOT / "python")))
-        kit.chmod(0o755)
+        kit = self.kit()
         run = subprocess.run([kit, "--version"], capture_output=True, text=True)
         self.assertEqual((run.returncode, run.stdout, run.stderr), (0, f"bsonkit {__version__}\n", ""))
         run = subprocess.run([kit, "--help"], capture_output=True, text=True)
@@ -195,19 +193,26 @@ class Becoming(Room):
         self.assertTrue(whole.exists())
 
     def test_signals(self) -> None:
-        """They are as the shell gave them: nothing is ignored that was not."""
-        self.script('grep SigIgn /proc/self/status', "bsonwide")
-        program = self.script('exec "$PROGRAM" "$@"')
-        command = [sys.executable, "-m", "bsonfind", "--program", program, "check", str(PEOPLE)]
-        for number in (None, signal.SIGINT, signal.SIGHUP):
-            before = (lambda: None) if number is None else (lambda: signal.signal(number, signal.SIG_IGN) and None)  # noqa: B023
-            ignored = []
-            for words in (command, ["grep", "SigIgn", "/proc/self/status"]):
-                run = subprocess.run(words, env=environment(), stdout=subprocess.PIPE, text=True, preexec_fn=before, restore_signals=True)
-                ignored.append(int(run.stdout.split()[1], 16))
-            self.assertEqual(*ignored)
-            if number is not None:
-                self.assertTrue(ignored[0] & 1 << (number - 1))
+        """They are as the shell gave them: what it ignores is ignored by the program, and nothing else is."""
+        program = self.wide(f'[ "$1" = --version ] && exec echo bsonwide {__version__}\nexec grep SigIgn /proc/self/status')
+        words = ["--program", program, "check", str(PEOPLE)]
+        commands = [str(self.kit()), *words], [sys.executable, "-m", "bsonfind", *words]
+
+        def ignored(command: List[str], number: Optional[int] = None) -> int:
+            before = (lambda: None) if number is None else (lambda: signal.signal(number, signal.SIG_IGN) and None)
+            told = subprocess.run(command, env=environment(), stdout=subprocess.PIPE, text=True, preexec_fn=before).stdout
+            return int(told.split()[1], 16)
+
+        for number in (None, signal.SIGINT, signal.SIGHUP, signal.SIGPIPE, signal.SIGXFSZ):
+            wanted = ignored(["grep", "SigIgn", "/proc/self/status"], number)
+            self.assertEqual(wanted >> (number or 1) - 1 & 1, number is not None)
+            # Python forgets what the last two were, so of a Python in place of the script the parent is asked.
+            for command in commands[: 1 if number in (signal.SIGPIPE, signal.SIGXFSZ) else 2]:
+                self.assertEqual(ignored(command, number), wanted, (command, number))
+        for trap in ("", "trap '' PIPE\n"):
+            shell = ["sh", "-c", f'{trap}"$@"; exit', "sh"]
+            for command in commands:
+                self.assertEqual(ignored([*shell, *command]), ignored([*shell, "grep", "SigIgn", "/proc/self/status"]), (trap, command))
 
     def test_time(self) -> None:
         """A plain file takes few calls beside the start of Python."""

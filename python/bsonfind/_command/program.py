@@ -9,8 +9,8 @@ import stat
 from .. import __version__
 from .._run.program import located_wide, says
 
-# The signals that Python ignores by itself.
-_IGNORED = (signal.SIGPIPE, signal.SIGXFSZ)
+# The signals that Python ignores by itself, and where `bsonkit` notes which ones the shell ignores, before Python begins.
+_IGNORED, _NOTED = (signal.SIGPIPE, signal.SIGXFSZ), "BSONKIT_IGNORED"
 # What a run of the program reads at most.
 _LARGEST = 4_294_967_295
 # The first bytes of what is no plain dump: an archive, or a file of gzip, which may hold one.
@@ -32,7 +32,7 @@ def become_program(words: list[str]) -> None:
     """Becomes the program for a command over one plain file; returns if the command is another one, or if that is not possible.
 
     One of another version is refused as in other commands. The file that was opened to look at it is passed on as standard input, so
-    no name is opened twice. Signals are as the shell gave them: Python ignores two, which is undone, and an exec undoes its handlers.
+    no name is opened twice.
     """
     rest, program = list(words), "bsonfind"
     if rest[:1] == ["--program"] and len(rest) > 1:
@@ -110,15 +110,37 @@ def _is_option(name: str, value: str) -> bool:
 
 
 def execute(program: str, words: list[str]) -> None:
-    """Becomes a program, with the signals as the shell gave them; an error if it cannot be started."""
+    """Becomes a program, with the signals as the shell gave them; an error if it cannot be started.
+
+    Python ignores two, which is undone unless the shell ignores them too, and an exec undoes all handlers.
+    """
+    ignored = _ignored_by_shell()
     for number in _IGNORED:
-        signal.signal(number, signal.SIG_DFL)
+        if not ignored >> (number - 1) & 1:
+            signal.signal(number, signal.SIG_DFL)
     try:
         os.execv(program, [program, *words])
     except OSError:
         for number in _IGNORED:
             signal.signal(number, signal.SIG_IGN)
         raise
+
+
+def _ignored_by_shell() -> int:
+    """The signals that this process was started with as ignored, a bit for each.
+
+    Where `bsonkit` has not noted them, as below `python3 -m bsonfind`, they are those of the parent, unless that is a Python: it ignores
+    signals that it does not hand on.
+    """
+    number, _, ignored = os.environ.pop(_NOTED, "").partition(" ")
+    if number == str(os.getpid()):
+        return int(ignored, 16)
+    try:
+        with open(f"/proc/{os.getppid()}/status", "rb") as status:
+            fields = {name: text for name, _, text in (line.partition(b":\t") for line in status)}
+        return 0 if fields[b"Name"].startswith(b"python") else int(fields[b"SigIgn"], 16)
+    except (OSError, LookupError, ValueError):
+        return 0
 
 
 def _has_streams() -> bool:
