@@ -83,7 +83,7 @@ class Serving(Room):
         for path, status, told in (
             (cut, 1, "gzip"),
             (self.room / "missing.bson", 1, f"bsonkit: cannot open {self.room}/missing.bson"),
-            (self.room, 1, f"bsonkit: cannot read {self.room}: it is a directory"),
+            (self.room, 1, f"bsonkit: cannot read {self.room}: it is a directory: name a dump in it"),
             (self.file(archive([("club", "people", b"")]), "archive"), 1, "an archive: name one of its collections"),
             (f"{self.room}/archive::club.nobody", 1, "club.nobody is not in the archive"),
             ("-", 2, "bsonkit: serve reads commands from standard input: the dump is a file"),

@@ -137,9 +137,27 @@ class Statuses(Room):
         self.assertEqual(self.status("check", str(PEOPLE), str(SHOP)), 0)
 
     def test_directories_in_place_of_dumps(self) -> None:
-        told = f"bsonkit: cannot read {self.room}: it is a directory"
-        for command, instead in (("check", ": audit checks all dumps below one"), ("dump", ""), ("find", ": query asks all dumps below one")):
-            self.assertEqual(run_package(command, str(self.room)).stderr, f"{told}{instead}\n")
+        """Each command that takes none says what does, once."""
+        for words, status, instead in (
+            (["check"], 1, "audit checks all dumps below one"),
+            (["dump"], 1, "query prints the documents of all dumps below one"),
+            (["pack"], 1, "name a text in it"),
+            (["find"], 1, "query asks all dumps below one"),
+            (["find", "--count"], 1, "query asks all dumps below one"),
+            (["serve"], 1, "name a dump in it"),
+            (["ids", "--ids", str(self.file(b"7\n", "ids"))], 2, "grep finds an id in all dumps below one"),
+            (["unpack"], 2, "name an archive in it"),
+            (["salvage"], 2, "--out salvages all dumps below one"),
+            (["salvage", "--good", f"{self.room}/good", "--bad", f"{self.room}/bad"], 2, "--out salvages all dumps below one"),
+        ):
+            run = run_package(*words, str(self.room))
+            told = f"bsonkit: cannot read {self.room}: it is a directory: {instead}\n"
+            self.assertEqual((run.returncode, run.stdout, run.stderr), (status, "", told), words)
+        for command in ("check", "dump"):
+            run = run_package(command, str(self.room), str(PEOPLE))
+            self.assertEqual(run.stderr.count("it is a directory"), 1)
+            self.assertTrue(run.stderr.startswith(f"bsonkit: {self.room}: it is a directory: "), run.stderr)
+            self.assertIn(f"{PEOPLE}: 500 ", run.stderr)
 
     def test_audits_of_directories(self) -> None:
         """A finding is 1: metadata alone, or none. What was not seen is 2: it may be good or not."""

@@ -2,7 +2,6 @@
 
 from __future__ import annotations
 
-import os
 import sys
 
 from .._dumps.checking import Checking
@@ -16,8 +15,6 @@ from .console import Console
 
 def check_file(name: str, program: str, console: Console, front: str = "") -> bool:
     """Prints the damage of a dump, as `check` does, each line after a text; gives whether there is none."""
-    if name != "-" and os.path.isdir(name):
-        raise DumpError(f"cannot read {name}: it is a directory: audit checks all dumps below one")
     faulty = 0
     checking, is_sound = Checking(program), True
     with Source(name, is_named=not front) as source:

@@ -20,12 +20,32 @@ if TYPE_CHECKING:
 
 # The commands with the statuses of the program, in which 1 is all that failed.
 AS_THE_PROGRAM = ("check", "dump", "pack", "find", "serve")
+# What to do in place of a command that takes no directory.
+_INSTEAD = {
+    "check": "audit checks all dumps below one",
+    "dump": "query prints the documents of all dumps below one",
+    "pack": "name a text in it",
+    "find": "query asks all dumps below one",
+    "serve": "name a dump in it",
+    "salvage": "--out salvages all dumps below one",
+    "unpack": "name an archive in it",
+    "ids": "grep finds an id in all dumps below one",
+}
 
 
 def run(words: argparse.Namespace) -> int:
     """Runs the command that was named, and gives its status."""
+    name = getattr(words, "file", getattr(words, "archive", None))
+    if name is not None and getattr(words, "out", None) is None:
+        _refuse_directory(words.command, name)
     command: Callable[[argparse.Namespace], int] = globals()[f"_run_{words.command}"]
     return command(words)
+
+
+def _refuse_directory(command: str, name: str, front: str = "") -> None:
+    if name != "-" and os.path.isdir(name):
+        what = "" if front else f"cannot read {name}: "
+        raise DumpError(f"{what}it is a directory: {_INSTEAD[command]}")
 
 
 def _run_check(words: argparse.Namespace) -> int:
@@ -58,6 +78,7 @@ def _run_each(words: argparse.Namespace, run_one: Callable[[str, str, Console, s
     for name in words.files:
         front = f"{name}: " if len(words.files) > 1 else ""
         try:
+            _refuse_directory(words.command, name, front)
             status = max(status, GOOD if run_one(name, words.program, console, front) else FAULTY)
         except DumpError as error:
             if not front:

@@ -34,8 +34,6 @@ class Finding:
 
     def print(self, console: Console) -> bool:
         """Prints what is found; returns whether the dump has no fault."""
-        if os.path.isdir(self.name):
-            raise DumpError(f"cannot read {self.name}: it is a directory: query asks all dumps below one")
         try:
             with Source(self.name, is_named=True) as source:
                 if not source.is_packed and (source.size or 0) > LARGEST_INPUT:
