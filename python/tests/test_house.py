@@ -74,8 +74,7 @@ DECIDES = {
     "_backup/schema._Looking.look": "counts the types of values, and keeps the least and the greatest: that is what the command says",
     "_backup/sums.Sum.add": "adds numbers, exactly: that is what the command says",
     "_backup/texts.order_of": "sorts rows of equal counts, and the values of a schema",
-    "_dumps/framing.walk": "the lengths of documents, before a run reads them",
-    "_dumps/framing.ends_in": "the same of bytes that pass",
+    "_dumps/framing.ends_in": "the lengths of documents, before a run reads them",
     **dict.fromkeys(
         ["_backup/reports.Report.faulty", "_backup/reports.Report.harmless", "_backup/reports.Audit.kinds", "_backup/reports.Audit.rows",
          "_backup/reports.Audit.as_json"],

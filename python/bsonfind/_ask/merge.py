@@ -18,7 +18,6 @@ from typing import Any, Callable, Iterable, Iterator, NamedTuple, Sequence, Type
 
 from .._dumps.checking import checking, faults_of, finish_check
 from .._dumps.parts import Part, PartError
-from .._dumps.sources import Input
 from .._errors import ArgumentError, BsonfindError, DumpError, ProgramError
 from .._faults import Fault
 from .._numbers import seconds, whole
@@ -218,7 +217,7 @@ def _count(request: Request, program: str, group: Group, part: Part) -> int:
 
 
 def _check(program: str, group: Group, part: Part) -> Check:
-    with checking(Input(0, 0, None, part.pieces()), program, group) as run:
+    with checking(Dump(part.pieces()), program, group) as run:
         faults = list(faults_of(run))
         documents = finish_check(run)
     return Check(documents, [fault.moved(part.first, part.offset) for fault in faults])

@@ -8,9 +8,8 @@ from typing import Callable, Iterable, Iterator, NamedTuple
 
 from .._dumps.checking import checking, faults_of, finish_check
 from .._dumps.framing import LONGEST, SHORTEST
-from .._dumps.sources import Input
 from .._faults import Fault, NO_DAMAGE
-from .._run.processes import Group, Run
+from .._run.processes import Dump, Group, Run
 from .window import Window
 
 # From this many documents in a row, or from fewer that end with the file, a place is guessed to be the beginning of a document.
@@ -42,7 +41,7 @@ class Check:
 
     def run(self, data: list[bytes]) -> Run:
         """A run over documents."""
-        return checking(Input(0, 0, None, iter(data)), self._program, self._group)
+        return checking(Dump(data), self._program, self._group)
 
     def faults(self, data: list[bytes], documents: int, run: Run | None = None) -> list[Fault]:
         """The damage of this many documents, as a run that was started finds it."""

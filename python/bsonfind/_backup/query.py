@@ -10,7 +10,7 @@ from .._ask.requests import Request
 from .._dumps.printing import lines_of
 from .._dumps.sources import Source
 from .._errors import BsonfindError, DumpError
-from .._run.processes import Group
+from .._run.processes import Group, Run
 from .._run.wide import wide_program
 from .backups import Dump
 
@@ -47,13 +47,13 @@ def query_dumps(dumps: Sequence[Dump], request: Request, jobs: int, program: str
 def _answer(dump: Dump, request: Request, program: str, group: Group) -> Iterator[Found]:
     """The documents of a dump, after one thing that is empty, which is given when its first run is started."""
     name, is_started = dump.name, False
-    words = [wide_program(program, group), "find", "-", *request.words()]
+    wide = wide_program(program, group)
     try:
         if dump.error:
             raise DumpError(dump.error)
         with Source(name) as source:
             for part in source.inputs(MOST_HELD):
-                with part.run(words, group=group) as run:
+                with Run.over(part.dump, wide, "find", request.words(), group=group) as run:
                     if not is_started:
                         is_started = True
                         yield Found(name, [])

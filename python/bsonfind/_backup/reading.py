@@ -11,9 +11,9 @@ from .._dumps.checking import checking, faults_of, finish_check
 from .._dumps.framing import LONGEST, inputs
 from .._dumps.passing import documents_taken
 from .._dumps.printing import Batches
-from .._dumps.sources import Input, Source, up_to_error
+from .._dumps.sources import Source, up_to_error
 from .._errors import DumpError, is_finding, why
-from .._run.processes import Group, Run
+from .._run.processes import Dump, Group, Run
 from .reports import MOST_FAULTS, Noting, Report
 from .watching import Watch
 
@@ -80,7 +80,7 @@ class _Batch:
         # What follows the last of them is a document with a wrong length.
         self._count = len(self._documents) + (sum(map(len, self._documents)) < len(data))
         self.end = first + self._count
-        self._run: Run = checking(Input(offset, first, None, iter([data])), program, group)
+        self._run: Run = checking(Dump([data]), program, group)
 
     def good(self, noting: Noting) -> list[bytes]:
         """Those without a fault, once the check has ended."""

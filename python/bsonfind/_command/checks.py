@@ -8,6 +8,7 @@ from .._dumps.checking import Checking
 from .._dumps.printing import finish_dump
 from .._dumps.sources import Source
 from .._errors import DumpError
+from .._run.processes import Run
 from .._run.wide import wide_program
 from .arguments import FORMATS
 from .console import Console
@@ -34,12 +35,12 @@ def check_file(name: str, program: str, console: Console, front: str = "") -> bo
 def dump_file(name: str, program: str, console: Console, front: str = "", format: str = FORMATS[0]) -> bool:
     """Prints the documents of a dump, as `dump` does, and what it says after a text; gives whether no document is refused."""
     sys.stdout.flush()
-    words = [wide_program(program), "dump", *([] if format == FORMATS[0] else ["--jsonFormat", format]), "-"]
+    wide, options = wide_program(program), [] if format == FORMATS[0] else ["--jsonFormat", format]
     documents, is_sound = 0, True
     with Source(name, is_named=not front) as source:
         try:
             for part in source.inputs():
-                with part.run(words, stdout=sys.stdout.fileno()) as run:
+                with Run.over(part.dump, wide, "dump", options, stdout=sys.stdout.fileno()) as run:
                     documents = part.first
                     try:
                         documents += finish_dump(run)

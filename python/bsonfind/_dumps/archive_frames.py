@@ -7,6 +7,7 @@ from itertools import chain
 from typing import Iterator, NamedTuple, Union
 
 from .._errors import DumpError
+from .elements import value_end
 from .framing import LONGEST, SHORTEST
 from .gzip import UnpackError, unpacked
 
@@ -15,7 +16,7 @@ _GZIP = b"\x1f\x8b"
 _TERMINATOR = -1
 _length_at = struct.Struct("<i").unpack_from
 Value = Union[str, int, bool]
-_INTEGERS = {0x10: 4, 0x12: 8}
+_INTEGERS = (0x10, 0x12)
 _STRING, _BOOLEAN = 0x02, 0x08
 _KINDS = {str: "string", int: "integer", bool: "boolean"}
 BLOCK = {"db": str, "collection": str, "EOF": bool, "CRC": int}
@@ -166,7 +167,7 @@ def fields_of(data: bytes, start: int, wanted: dict[str, type], **missing: Value
     """The fields of a document that begins at this byte: the named ones, by their types, or what they are if missing."""
     try:
         fields = {**missing, **_read_fields(data)}
-    except (ValueError, IndexError, struct.error):
+    except (ValueError, IndexError):
         raise bad(start, "not a document of strings, numbers and booleans") from None
     for name, kind in wanted.items():
         if name not in fields:
@@ -177,32 +178,23 @@ def fields_of(data: bytes, start: int, wanted: dict[str, type], **missing: Value
 
 
 def _read_fields(data: bytes) -> dict[str, Value]:
-    """All fields of a document. One of another type, and what is no document, is a `ValueError` or an error of its index."""
+    """All fields of a document. One of another type, and what is no document, is a `ValueError` or an `IndexError`."""
     fields: dict[str, Value] = {}
     at, end = 4, len(data) - 1
     if data[end]:
         raise ValueError
     while at < end:
         kind, after = data[at], data.index(b"\0", at + 1, end)
-        name = data[at + 1 : after].decode()
-        at = after + 1
-        if name in fields:
+        name, at = data[at + 1 : after].decode(), value_end(data, kind, after + 1) or 0
+        value = data[after + 1 : at]
+        if name in fields or not 0 < at <= end:
             raise ValueError
-        if kind == _STRING:
-            (size,) = _length_at(data, at)
-            at += 4 + size
-            if size < 1 or at > end or data[at - 1]:
-                raise ValueError
-            fields[name] = data[at - size : at - 1].decode()
-        elif kind == _BOOLEAN and data[at] < 2:
-            fields[name] = data[at] == 1
-            at += 1
+        if kind == _STRING and len(value) > 4 and not value[-1]:
+            fields[name] = value[4:-1].decode()
+        elif kind == _BOOLEAN and value[0] < 2:
+            fields[name] = value[0] == 1
+        elif kind in _INTEGERS:
+            fields[name] = int.from_bytes(value, "little", signed=True)
         else:
-            size = _INTEGERS.get(kind, end)
-            at += size
-            if at > end:
-                raise ValueError
-            fields[name] = int.from_bytes(data[at - size : at], "little", signed=True)
-    if at != end:
-        raise ValueError
+            raise ValueError
     return fields

@@ -3,13 +3,13 @@
 from __future__ import annotations
 
 import re
-from typing import Iterator
+from typing import Iterable, Iterator
 
 from .._errors import ProgramError
 from .._faults import Fault, read_fault
-from .._run.processes import Group, Run
+from .._run.processes import Dump, Group, Run
 from .._run.wide import wide_program
-from .sources import Input, Source
+from .sources import Source
 
 _COUNTED = re.compile(r"(\d+) documents, (\d+) faulty\n")
 
@@ -24,14 +24,14 @@ class Checking:
     def faults(self, source: Source) -> Iterator[Fault]:
         """The damage, in the order of the documents."""
         for part in source.inputs():
-            given = part if part.pieces is None else part._replace(pieces=self._counted(part.pieces))
-            with checking(given, self._program, self._group) as run:
+            pieces, file = part.dump
+            with checking(Dump(pieces and self._counted(pieces), file), self._program, self._group) as run:
                 for fault in faults_of(run):
                     yield fault.moved(self.documents, part.offset)
                 self.documents += finish_check(run)
-            self.bytes = self.bytes if part.file is None else source.size or 0
+            self.bytes = self.bytes if file is None else source.size or 0
 
-    def _counted(self, pieces: Iterator[bytes]) -> Iterator[bytes]:
+    def _counted(self, pieces: Iterable[bytes]) -> Iterator[bytes]:
         for piece in pieces:
             self.bytes += len(piece)
             yield piece
@@ -59,6 +59,6 @@ def finish_check(run: Run, wanted: int | None = None) -> int:
     return documents
 
 
-def checking(given: Input, program: str, group: Group | None = None) -> Run:
+def checking(dump: Dump, program: str, group: Group | None = None) -> Run:
     """A run that checks some documents of all types."""
-    return given.run([wide_program(program, group), "check", "-"], group=group)
+    return Run.over(dump, wide_program(program, group), "check", group=group)

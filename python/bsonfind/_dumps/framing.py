@@ -24,29 +24,12 @@ def read_at(file: BinaryIO, at: int, most: int, least: int = 1) -> bytes:
     return piece
 
 
-def walk(file: BinaryIO, start: int = 0, end: int | None = None) -> Iterator[int]:
-    """The place after each document from a place on, by its length alone.
-
-    A length that is wrong is a `DumpError`; its fault counts documents from the first that was passed. The file is read a piece
-    at a time, and long documents are skipped. No map of the file is made, since the system ends a program that looks at a map
-    of a file that shrinks.
-    """
-    end = os.fstat(file.fileno()).st_size if end is None else end
-    at, number = start, 0
-    # The piece that is kept, where it begins, and the last place in it of a whole length.
-    piece, base, last = b"", start, start - 1
+def read_on(file: BinaryIO, at: int, end: int) -> Iterator[bytes]:
+    """The bytes of a file from one place to another. No map of it is made: the system ends a program whose map shrinks."""
     while at < end:
-        if at > last:
-            piece, base = read_at(file, at, min(_PIECE, end - at), min(4, end - at)), at
-            last = base + len(piece) - 4
-            if at > last:
-                raise bad(number, at, "length cut short")
-        (length,) = _length_at(piece, at - base)
-        if not SHORTEST <= length <= LONGEST or length > end - at:
-            raise bad(number, at, "bad length")
-        at += length
-        number += 1
-        yield at
+        piece = read_at(file, at, min(_PIECE, end - at))
+        at += len(piece)
+        yield piece
 
 
 def ends_in(pieces: Iterable[bytes]) -> Iterator[int]:

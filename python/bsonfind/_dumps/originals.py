@@ -60,7 +60,8 @@ class Original:
         with self._lock:
             ends = self._ends
             start = ends[-1] if ends else 0
-            ends.extend(islice(framing.walk(self._file, start, self._state.size), max(0, number + 1 - len(ends))))
+            more = framing.ends_in(framing.read_on(self._file, start, self._state.size))
+            ends.extend(start + end for end in islice(more, max(0, number + 1 - len(ends))))
             if number >= len(ends):
                 raise DumpError("the file was written to since it was opened")
 

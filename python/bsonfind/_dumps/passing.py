@@ -6,10 +6,10 @@ import struct
 from typing import Callable, Iterable, Iterator
 
 from .._errors import DumpError
-from .._run.processes import Group
+from .._run.processes import Dump, Group
 from .checking import checking, faults_of, finish_check
 from .framing import LONGEST, SHORTEST, inputs
-from .sources import Input, Source
+from .sources import Source
 
 _length_at = struct.Struct("<i").unpack_from
 
@@ -21,7 +21,7 @@ def each_document(source: Source, program: str, take: Callable[[bytes], None], g
     """
     documents = 0
     for offset, first, pieces in inputs(source.pieces()):
-        with checking(Input(offset, first, None, documents_taken(pieces, take)), program, group) as run:
+        with checking(Dump(documents_taken(pieces, take)), program, group) as run:
             for fault in faults_of(run):
                 raise DumpError.at(fault.moved(first, offset))
             documents = first + finish_check(run)

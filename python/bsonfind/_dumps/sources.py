@@ -5,11 +5,11 @@ from __future__ import annotations
 import os
 import select
 import stat
-from typing import Any, BinaryIO, Iterable, Iterator, NamedTuple, Sequence
+from typing import BinaryIO, Iterable, Iterator, NamedTuple
 
 from .._errors import DumpError
 from .._names import File, name_of
-from .._run.processes import Dump, Run
+from .._run.processes import Dump
 from . import framing, gzip
 from .archive import Listed, documents_of, is_archive
 from .files import HEAD, INSIDE, FileState, member_of
@@ -18,21 +18,11 @@ _PIECE = 1 << 18
 
 
 class Input(NamedTuple):
-    """What one run reads of a dump: the place of its first document, and the open file, or pieces that are written to it."""
+    """What one run reads of a dump, and the place of its first document."""
 
     offset: int
     first: int
-    file: BinaryIO | None
-    pieces: Iterator[bytes] | None
-
-    @property
-    def dump(self) -> Dump:
-        """The same, without its place."""
-        return Dump(self.pieces, self.file)
-
-    def run(self, words: Sequence[str], **how: Any) -> Run:
-        """A run of the program that reads it as standard input."""
-        return Run(words, stdin=self.file, **how) if self.file else Run(words, self.pieces, **how)
+    dump: Dump
 
 
 class Source:
@@ -131,13 +121,13 @@ class Source:
         if self.is_packed or self.size is None or self.size > limit:
             errors: list[Exception] = []
             for offset, first, pieces in framing.inputs(up_to_error(self.pieces(), errors), limit):
-                yield Input(offset, first, None, pieces)
+                yield Input(offset, first, Dump(pieces))
             if errors:
                 raise errors[0]
         else:
             self.refuse_archive()
             self.file.seek(self._start)
-            yield Input(0, 0, self.file, None)
+            yield Input(0, 0, Dump(file=self.file))
             self.check()
 
     def position(self) -> int:
