@@ -9,7 +9,7 @@ use Rattle.bd_cli_args.specs.CommandLine.{find_options_in}
 use Rattle.bd_cli_args.specs.FileCommands.{file_app, refusal_by}
 use Rattle.bd_cli_args.specs.declared.order.WordsFault.{WordsFault}
 use Rattle.bd_cli_args.specs.declared.order.WordsFault.TheVariants.{NoMemory, Usage}
-use Rattle.bd_cli_args.specs.WideLine.{OrderView, wide_commands, check, counts_more, counts_more_in, dump, dump_app, pack, flag_in, parser_refusal, serve, serve_app, find_app, form_in, line_app, ordered_by}
+use Rattle.bd_cli_args.specs.WideLine.{OrderView, wide_commands, check, conflicts, conflicts_in, dump, dump_app, pack, flag_in, parser_refusal, serve, serve_app, find_app, form_in, line_app, ordered_by}
 use Rattle.bd_cli_args.proofs.ProgramLemmas.{EachShape, HasOrders, IsProgram, file_given, file_orders, refused, shape_in}
 
 pub is_program : IsProgram line_app ordered_by
@@ -29,7 +29,7 @@ is_program = record {
     of_file name says is = file_orders line_app ordered_by (shape_in line_app (file_app name)) (λ rows. says) refl (λ rows c. file_given _ _ c) is
 
     finds : HasOrders line_app ordered_by (shape_in line_app find_app)
-    finds = file_orders line_app ordered_by (shape_in line_app find_app) (λ rows file. OrderView.find file (find_options_in rows) (form_in rows)) refl (λ rows c. file_given _ _ c) (λ rows. refl)
+    finds = file_orders line_app ordered_by (shape_in line_app find_app) (λ rows file. OrderView.find file (first_of (codes "queryFile") rows) (find_options_in rows) (form_in rows)) refl (λ rows c. file_given _ _ c) (λ rows. refl)
 
     dumps : HasOrders line_app ordered_by (shape_in line_app dump_app)
     dumps = file_orders line_app ordered_by (shape_in line_app dump_app) (λ rows file. dump file (first_of (codes "jsonFormat") rows)) refl (λ rows c. file_given _ _ c) (λ rows. refl)
@@ -55,18 +55,18 @@ some_mapped f (Some x) = refl
 
 -- ---- how arguments are refused
 
--- by the parser's refusal, and by whether they have more beside `--count`
-pub explained_by : (words : List Text) (refusal : Option WordsFault) (more : Bool) → refusal_by line_app words ≡ refusal → counts_more_in words ≡ more
-    → parser_refusal words ≡ option_or refusal (if more then Some Usage else None)
-explained_by words refusal more refused counts =
+-- by the parser's refusal, and by whether they have options that do not go together
+pub explained_by : (words : List Text) (refusal : Option WordsFault) (both : Bool) → refusal_by line_app words ≡ refusal → conflicts_in words ≡ both
+    → parser_refusal words ≡ option_or refusal (if both then Some Usage else None)
+explained_by words refusal both refused counts =
     ap₂ (λ (r : Option WordsFault) (b : Bool). option_or r (if b then Some Usage else None)) refused counts
 
 -- what the parser refuses is refused
 pub refused_too : (words : List Text) (f : WordsFault) → (f ≡ NoMemory) ⊎ (refusal_by line_app words ≡ Some f)
     → (f ≡ NoMemory) ⊎ (parser_refusal words ≡ Some f)
 refused_too words f (inl memory) = inl memory
-refused_too words f (inr refused) = inr (explained_by words (Some f) (counts_more_in words) refused refl)
+refused_too words f (inr refused) = inr (explained_by words (Some f) (conflicts_in words) refused refl)
 
-pub counted_by : (words : List Text) (name : Text) (rows : List Row) (more : Bool) → subcommand_of line_app words ≡ Some (name, rows) → counts_more rows ≡ more
-    → counts_more_in words ≡ more
-counted_by words name rows more is e = ap (λ o. option_map_or (λ (p : Text × List Row). counts_more p.1) o false) is ∙ e
+pub conflicts_by : (words : List Text) (name : Text) (rows : List Row) (both : Bool) → subcommand_of line_app words ≡ Some (name, rows) → conflicts rows ≡ both
+    → conflicts_in words ≡ both
+conflicts_by words name rows both is e = ap (λ o. option_map_or (λ (p : Text × List Row). conflicts p.1) o false) is ∙ e

@@ -20,9 +20,10 @@ dump_app = with_options (file_app (codes "dump")) ((codes "jsonFormat", false) �
 abbrev pub flag_rule : Text → Rule
 flag_rule name = record (new_rule name) { long = Some name; action = Some ArgAction.SetTrue }
 
--- `find` with its file, the options of `bsonfind`, and two flags
+-- `find` with its file, the options of `bsonfind`, one more, and two flags
 abbrev pub find_app : App
-find_app = with_rule (with_rule options_app (flag_rule (codes "count"))) (flag_rule (codes "bson"))
+find_app = let app = with_options options_app ((codes "queryFile", false) ∷ []) in
+    with_rule (with_rule app (flag_rule (codes "count"))) (flag_rule (codes "bson"))
 
 -- `serve` with its file and a flag
 abbrev pub serve_app : App
@@ -39,7 +40,7 @@ pub data OrderView : Type 0 where
   dump : Text → Option Text → OrderView
   check : Text → OrderView
   pack : Text → OrderView
-  find : Text → FindOptions → Form → OrderView
+  find : Text → Option Text → FindOptions → Form → OrderView
   serve : Text → Bool → OrderView
 
 -- the command that a `WideOrder` in memory represents
@@ -47,7 +48,8 @@ abbrev pub meant : WideOrder → OrderView
 meant (WideOrder.Dump file format) = dump (string_bytes file) (option_map string_bytes format)
 meant (WideOrder.Check file) = check (string_bytes file)
 meant (WideOrder.Pack file) = pack (string_bytes file)
-meant (WideOrder.Find file options form) = find (string_bytes file) options form
+meant (WideOrder.Find file query_file options form) =
+    find (string_bytes file) (option_map string_bytes query_file) options form
 meant (WideOrder.Serve file by_value) = serve (string_bytes file) by_value
 
 -- whether a flag is given
@@ -58,15 +60,32 @@ flag_in name rows = option_map_or (λ text. bytes_eq text (codes "true")) (first
 abbrev pub form_in : List Row → Form
 form_in rows = if flag_in (codes "count") rows then Form.Count else (if flag_in (codes "bson") rows then Form.Bson else Form.Lines)
 
+-- whether an option is given
+abbrev pub option_in : Text → List Row → Bool
+option_in name rows = is_some (first_of name rows)
+
+-- whether FILE or an option is given as standard input, `-`
+abbrev pub is_input : Text → List Row → Bool
+is_input name rows = option_map_or (λ text. bytes_eq text (codes "-")) (first_of name rows) false
+
 -- whether `--count` is given, and `--bson` or `--batch` beside it
 abbrev pub counts_more : List Row → Bool
-counts_more rows = flag_in (codes "count") rows && (flag_in (codes "bson") rows || is_some (first_of (codes "batch") rows))
+counts_more rows = flag_in (codes "count") rows && (flag_in (codes "bson") rows || option_in (codes "batch") rows)
+
+-- whether `--query` and `--queryFile` are given, or the dump and the query are both read from standard input
+abbrev pub queries_twice : List Row → Bool
+queries_twice rows = (option_in (codes "query") rows && option_in (codes "queryFile") rows)
+    || (is_input (codes "file") rows && is_input (codes "queryFile") rows)
+
+-- whether the options of `find` do not go together
+abbrev pub conflicts : List Row → Bool
+conflicts rows = counts_more rows || queries_twice rows
 
 -- what each command does with its FILE, by its name
 abbrev pub wide_commands : List Row → List (Text × (Text → OrderView))
 wide_commands rows = (codes "dump", λ file. dump file (first_of (codes "jsonFormat") rows)) ∷ (codes "check", check) ∷ (codes "pack", pack)
-    ∷ (codes "serve", λ file. serve file (flag_in (codes "byValue") rows)) ∷ (codes "find", λ file. find file (find_options_in rows) (form_in rows))
-    ∷ []
+    ∷ (codes "serve", λ file. serve file (flag_in (codes "byValue") rows))
+    ∷ (codes "find", λ file. find file (first_of (codes "queryFile") rows) (find_options_in rows) (form_in rows)) ∷ []
 
 -- the command that a name and its parsed arguments mean
 abbrev pub ordered_by : Text → List Row → Option OrderView
@@ -77,13 +96,13 @@ ordered_by name rows =
 abbrev pub order_of : List Text → Option OrderView
 order_of = order_by line_app ordered_by
 
--- whether the arguments, as the parser reads them, have `--count`, and `--bson` or `--batch` beside it
-abbrev pub counts_more_in : List Text → Bool
-counts_more_in words = option_map_or (λ p. counts_more p.1) (subcommand_of line_app words) false
+-- whether the arguments, as the parser reads them, have options that do not go together
+abbrev pub conflicts_in : List Text → Bool
+conflicts_in words = option_map_or (λ p. conflicts p.1) (subcommand_of line_app words) false
 
--- how arguments are refused as the parser refuses them, or because they have more beside `--count`; None if they are not
+-- how arguments are refused as the parser refuses them, or because options do not go together; None if they are not
 abbrev pub parser_refusal : List Text → Option WordsFault
-parser_refusal words = option_or (refusal_by line_app words) (if counts_more_in words then Some WordsFault.Usage else None)
+parser_refusal words = option_or (refusal_by line_app words) (if conflicts_in words then Some WordsFault.Usage else None)
 
 -- whether the command is `serve -`: the commands come from standard input, so the dump cannot
 abbrev pub is_serve_of_input : OrderView → Bool
@@ -94,7 +113,7 @@ is_serve_of_input _ = false
 abbrev pub serves_input : List Text → Bool
 serves_input words = option_map_or is_serve_of_input (order_of words) false
 
--- how arguments are refused: by the parser, for more beside `--count`, or because they mean `serve -`;
+-- how arguments are refused: by the parser, for options that do not go together, or because they mean `serve -`;
 -- None if they are accepted
 abbrev pub fault_for : List Text → Option WordsFault
 fault_for words = option_or (parser_refusal words) (if serves_input words then Some WordsFault.Usage else None)

@@ -5,7 +5,7 @@ ghost use Rattle.clap.specs.Words.{found_of, rows_of, rule_of, takes};
 ghost use Rattle.bd_cli_args.specs.CommandLine.{words_of};
 ghost use Rattle.bd_cli_args.specs.inside.FileCommands.{IsBuiltAs};
 ghost use Rattle.bd_cli_args.specs.declared.order.WordsFault.TheVariants.{NoMemory};
-ghost use Rattle.bd_cli_args.specs.WideLine.{counts_more, counts_more_in, dump_app, fault_for, find_app, flag_in, flag_rule, form_in, is_serve_of_input, line_app, meant, order_of, ordered_by, parser_refusal, serve_app, serves_input};
+ghost use Rattle.bd_cli_args.specs.WideLine.{conflicts, conflicts_in, counts_more, dump_app, fault_for, find_app, flag_in, flag_rule, form_in, is_input, is_serve_of_input, line_app, meant, option_in, order_of, ordered_by, parser_refusal, queries_twice, serve_app, serves_input};
 
 use crate::command_line::{find_command, options_of, text_of, with_options};
 use crate::file_commands::{Made, explain_error, of_file, program_command};
@@ -32,6 +32,8 @@ pub enum WideOrder {
     /// The documents that the options select, in this form.
     Find {
         file: String,
+        /// The file of the query, in place of that of the options.
+        query_file: Option<String>,
         options: FindOptions,
         form: Form,
     },
@@ -57,10 +59,11 @@ pub enum Form {
 /// The command that the arguments mean, without the program's name.
 ///
 /// `dump FILE [--jsonFormat FORMAT]`, `check FILE`, `pack FILE` and `serve FILE [--byValue]` are accepted, and
-/// `find FILE [--query Q] [--sort S] [--skip N] [--limit N] [--batch N] [--index PATH] [--after TOKEN] [--bson | --count]`, N from 0
-/// to 2,147,483,647, with the options in any order, each at most once, and FILE before or after them. `--skip` and `--limit` are 0
-/// by default. `--count` takes neither `--batch` nor `--bson` beside it. A file whose name looks like a flag comes after
-/// `--`. The file of `serve` is not `-`, since the commands of a session come from standard input.
+/// `find FILE [--query Q | --queryFile FILE] [--sort S] [--skip N] [--limit N] [--batch N] [--index PATH] [--after TOKEN]
+/// [--bson | --count]`, N from 0 to 2,147,483,647, with the options in any order, each at most once, and FILE before or after
+/// them. `--skip` and `--limit` are 0 by default. `--count` takes neither `--batch` nor `--bson` beside it, and only one of the two
+/// files is `-`. A file whose name looks like a flag comes after `--`. The file of `serve` is not `-`, since the commands of a
+/// session come from standard input.
 ///
 /// # Errors
 ///
@@ -73,7 +76,7 @@ pub fn parse_wide_words(alloc: Global, words: &[String]) -> Result<WideOrder, Wo
     ensures never_of_input { IfOk result (λ o. is_serve_of_input (meant o) ≡ false) }
     ensures fault { IfErr result (λ f. (f ≡ NoMemory) ⊎ (fault_for (words_of words.now) ≡ Some f)) }
     ensures taken { takes line_app (words_of words.now) ≡ true →
-        counts_more_in (words_of words.now) ≡ false → serves_input (words_of words.now) ≡ false →
+        conflicts_in (words_of words.now) ≡ false → serves_input (words_of words.now) ≡ false →
         IfErr result (λ f. f ≡ NoMemory) }
 {
     let order = order_in(alloc, words)?;
@@ -96,7 +99,7 @@ fn order_in(alloc: Global, words: &[String]) -> Result<WideOrder, WordsFault>
     ensures fault { IfErr result (λ f. (f ≡ NoMemory)
         ⊎ (parser_refusal (words_of words.now) ≡ Some f)) }
     ensures taken { takes line_app (words_of words.now) ≡ true →
-        counts_more_in (words_of words.now) ≡ false → IfErr result (λ f. f ≡ NoMemory) }
+        conflicts_in (words_of words.now) ≡ false → IfErr result (λ f. f ≡ NoMemory) }
 {
     let command = line_command(alloc)?;
     let matches = match command.try_get_matches_from(words) {
@@ -106,17 +109,47 @@ fn order_in(alloc: Global, words: &[String]) -> Result<WideOrder, WordsFault>
     let Some((name, inner)) = matches.subcommand() else {
         unreachable!()
     };
-    if counts_more(inner) {
+    if conflicts(inner) {
         return Err(WordsFault::Usage);
     }
     order_named(alloc, name, inner)
+}
+
+/// Whether options do not go together.
+fn conflicts(matches: &ArgMatches<'_>) -> bool
+    ensures { result ≡ conflicts (rows_of (found_of matches.now)) }
+{
+    counts_more(matches) || queries_twice(matches)
 }
 
 /// Whether `--count` is given, and `--bson` or `--batch` beside it.
 fn counts_more(matches: &ArgMatches<'_>) -> bool
     ensures { result ≡ counts_more (rows_of (found_of matches.now)) }
 {
-    is_set(matches, "count") && (is_set(matches, "bson") || matches.get_str("batch").is_some())
+    is_set(matches, "count") && (is_set(matches, "bson") || is_given(matches, "batch"))
+}
+
+/// Whether `--query` and `--queryFile` are given, or the dump and the query are both read from standard input.
+fn queries_twice(matches: &ArgMatches<'_>) -> bool
+    ensures { result ≡ queries_twice (rows_of (found_of matches.now)) }
+{
+    is_given(matches, "query") && is_given(matches, "queryFile")
+        || is_input(matches, "file") && is_input(matches, "queryFile")
+}
+
+/// Whether an option is given.
+fn is_given(matches: &ArgMatches<'_>, name: &str) -> bool
+    ensures { result ≡ option_in name.now (rows_of (found_of matches.now)) }
+{
+    matches.get_str(name).is_some()
+}
+
+/// Whether FILE or an option is given as standard input, `-`.
+#[tactic(auto, using(crate::proofs::WideLineLemmas::readings))]
+fn is_input(matches: &ArgMatches<'_>, name: &str) -> bool
+    ensures { result ≡ is_input name.now (rows_of (found_of matches.now)) }
+{
+    matches.get_str(name).is_some_and(|text| text == "-")
 }
 
 /// Whether a flag is given.
@@ -160,10 +193,12 @@ fn order_named(alloc: Global, name: &str, matches: &ArgMatches<'_>) -> Result<Wi
         "check" => Ok(WideOrder::Check { file }),
         "pack" => Ok(WideOrder::Pack { file }),
         "find" => {
+            let query_file = text_of(alloc, matches, "queryFile")?;
             let options = options_of(alloc, matches)?;
             let form = form_of(matches);
             Ok(WideOrder::Find {
                 file,
+                query_file,
                 options,
                 form,
             })
@@ -203,7 +238,8 @@ fn serve_command<'a>(alloc: Global) -> Made<'a>
 fn flagged_command<'a>(alloc: Global) -> Made<'a>
     ensures { IfOk result (IsBuiltAs find_app) }
 {
-    let command = find_command(alloc)?.arg(flag_argument(alloc, "count"))?;
+    let command = with_options(alloc, find_command(alloc)?, &[("queryFile", false)])?;
+    let command = command.arg(flag_argument(alloc, "count"))?;
     command.arg(flag_argument(alloc, "bson"))
 }
 
