@@ -40,11 +40,22 @@ class Packing(Room):
     def test_bad_and_missing(self) -> None:
         bad = run_package("pack", str(self.file(b'{"a":1}\n{"a":{"$numberDouble":"abc"}}\n', "lines")))
         self.assertEqual((bad.returncode, bad.stderr), (1, "bsonwide: line 2, byte 5: bad wrapper\n1 objects packed\n"))
-        named = os.path.join(os.curdir, "-no-such-file")
-        self.assertEqual(run_package("pack", "--", "-no-such-file").stderr, f"bsonwide: cannot open {named}\n")
-        missing = run_package("pack", "no-such-file")
-        self.assertEqual((missing.returncode, missing.stdout, missing.stderr), (1, "", "bsonwide: cannot open no-such-file\n"))
+        for words in (["--", "-no-such-file"], ["no-such-file"]):
+            missing = run_package("pack", *words)
+            self.assertEqual((missing.returncode, missing.stdout, missing.stderr), (1, "", f"bsonkit: cannot open {words[-1]}\n"))
         self.assertEqual(run_package("pack").returncode, 2)
+
+    def test_names(self) -> None:
+        """Those that are not UTF-8, or begin as an option does, too; a pipe is read."""
+        for name in (os.fsdecode(b"\xff.jsonl"), "-lines", "sp ace", "dump.bson.gz"):
+            self.file(b'{"a":1}\n', name)
+            words = [name] if name[0] != "-" else ["--", name]
+            run = run_package("pack", *words, cwd=self.room, text=False, input=b"", env={**environment(), "PYTHONPATH": str(ROOT / "python")})
+            self.assertEqual((run.returncode, len(run.stdout), run.stderr), (0, 12, b"1 objects packed\n"), name)
+        os.mkfifo(self.room / "pipe")
+        with subprocess.Popen(["cp", self.room / "-lines", self.room / "pipe"]):
+            run = run_package("pack", str(self.room / "pipe"), text=False, input=b"")
+        self.assertEqual((run.returncode, len(run.stdout), run.stderr), (0, 12, b"1 objects packed\n"))
 
 
 class Arguments(Room):

@@ -2,6 +2,7 @@
 
 import gzip
 import json
+import re
 import shutil
 import signal
 import subprocess
@@ -158,6 +159,28 @@ class Statuses(Room):
             self.assertEqual(run.stderr.count("it is a directory"), 1)
             self.assertTrue(run.stderr.startswith(f"bsonkit: {self.room}: it is a directory: "), run.stderr)
             self.assertIn(f"{PEOPLE}: 500 ", run.stderr)
+
+    def test_standard_output_that_is_closed(self) -> None:
+        """The status is the one of what failed; nothing is printed elsewhere, help neither."""
+        lines = str(self.file(b'{"a":1}\n', "lines"))
+        packed = str(self.file(gzip.compress(PEOPLE.read_bytes()), "dump.bson.gz"))
+        for words, status in (
+            (["dump", str(PEOPLE)], 1), (["dump", packed], 1), (["find", packed], 1), (["pack", lines], 1), (["serve", packed], 1),
+            (["audit", packed], 2), (["count", packed], 2), (["--help"], 2), (["--version"], 2),
+        ):  # fmt: skip
+            command = ["sh", "-c", 'exec "$@" >&-', "sh", sys.executable, "-m", "bsonfind", "--program", PROGRAM, *words]
+            run = subprocess.run(command, env=environment(), stdin=subprocess.DEVNULL, stderr=subprocess.PIPE, text=True)
+            self.assertEqual((run.returncode, run.stderr), (status, "bsonkit: cannot write: standard output is closed\n"), words)
+
+    def test_dump_that_is_cut_while_packed(self) -> None:
+        """The file of gzip is what is wrong, and the last document shows it."""
+        cut = self.file(gzip.compress(PEOPLE.read_bytes())[:3000], "cut.bson.gz")
+        run = run_package("dump", str(cut))
+        documents = len(run.stdout.splitlines())
+        told = r'bsonkit: document (\d+), byte \d+, path "": bad length\nbsonkit: not a sound file of gzip: it ends too soon\n(\d+) objects found\n'
+        found = re.fullmatch(told, run.stderr)
+        self.assertTrue(found, run.stderr)
+        self.assertEqual((run.returncode, found[1], found[2]), (1, str(documents), str(documents)))
 
     def test_audits_of_directories(self) -> None:
         """A finding is 1: metadata alone, or none. What was not seen is 2: it may be good or not."""

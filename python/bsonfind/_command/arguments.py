@@ -31,11 +31,22 @@ class Refused(Exception):
     """Arguments that go with nothing."""
 
 
+class _Help(argparse.HelpFormatter):
+    """Help as wide as the terminal. argparse would import shutil to find that out, with all that this imports, for every command."""
+
+    def __init__(self, prog: str, **how: Any) -> None:
+        try:
+            columns = int(os.environ.get("COLUMNS", 0)) or os.get_terminal_size().columns
+        except (OSError, ValueError):
+            columns = 0
+        super().__init__(prog, width=(columns if columns > 0 else 80) - 2, **how)
+
+
 class _Parser(argparse.ArgumentParser):
     """A parser that takes no shortened option, and whose help is an error if it cannot be written."""
 
     def __init__(self, **how: object) -> None:
-        super().__init__(allow_abbrev=False, **how)  # type: ignore[arg-type]
+        super().__init__(allow_abbrev=False, formatter_class=_Help, **how)  # type: ignore[arg-type]
 
     def parse_known_args(self, args: Any = None, namespace: Any = None) -> Any:
         """Takes names of files after options too, which else are not known."""

@@ -7,7 +7,7 @@ import sys
 from .._dumps.checking import Checking
 from .._dumps.printing import finish_dump
 from .._dumps.sources import Source
-from .._errors import DumpError
+from .._errors import DumpError, why
 from .._run.processes import Run
 from .._run.wide import wide_program
 from .arguments import FORMATS
@@ -50,7 +50,8 @@ def dump_file(name: str, program: str, console: Console, front: str = "", format
         except DumpError as error:
             if not error.is_finding:
                 raise
-            console.problem(f"{front}{error}")
+            for it in dict.fromkeys([error, *source.errors]):
+                console.problem(f"{front}{why(it)}")
             is_sound = False
     console.note(f"{front}{documents} objects found")
     return is_sound

@@ -61,13 +61,14 @@ def _run_dump(words: argparse.Namespace) -> int:
 
 
 def _run_pack(words: argparse.Namespace) -> int:
-    """Becomes the program, which reads a text by itself; only an error comes back."""
+    """Becomes the program, whose standard input is the text; only an error comes back."""
     from .._run.wide import wide_program
-    from .program import execute
+    from .program import PACK, execute, take_text
 
-    # A name that begins as an option does is given with its folder.
-    is_like_option = words.file.startswith("-") and words.file != "-"
-    execute(wide_program(words.program), ["pack", os.path.join(os.curdir, words.file) if is_like_option else words.file])
+    wide = wide_program(words.program)
+    if not take_text(words.file):
+        raise DumpError(f"cannot open {words.file}")
+    execute(wide, [PACK, "-"])
     return FAULTY
 
 

@@ -32,8 +32,15 @@ def visible(text: str) -> str:
     return text.translate(_CONTROL)
 
 
+def need_output() -> None:
+    """Refuses a standard output that is closed."""
+    if sys.stdout is None:
+        raise CannotWrite("cannot write: standard output is closed")
+
+
 def print_text(text: str, end: str = "\n") -> None:
     """Prints a text on standard output."""
+    need_output()
     with _writing():
         print(text, end=end, flush=True)
 
@@ -42,8 +49,6 @@ class Console:
     """Lines of standard output, and on a terminal a line of progress below them. Threads may share it."""
 
     def __init__(self) -> None:
-        if sys.stdout is None:
-            raise CannotWrite("cannot write: standard output is closed")
         self._lock = threading.Lock()
         self.on_terminal = sys.stderr is not None and sys.stderr.isatty()
 

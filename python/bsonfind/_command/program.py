@@ -15,9 +15,8 @@ _IGNORED, _NOTED = (signal.SIGPIPE, signal.SIGXFSZ), "BSONKIT_IGNORED"
 _LARGEST = 4_294_967_295
 # The first bytes of what is no plain dump: an archive, or a file of gzip, which may hold one.
 _OTHERS = (b"\x6d\xe2\x99\x81", b"\x1f\x8b")
-# The commands of one plain dump that are those of the program, the one of a text, which the program opens itself, and the one that
-# reads commands from standard input.
-_OF_DUMPS, _OF_TEXTS, _SERVE = ("check", "dump", "find"), ("pack",), "serve"
+# The commands of one plain dump that are those of the program, the one of a text, and the one that reads commands from standard input.
+_OF_DUMPS, PACK, _SERVE = ("check", "dump", "find"), "pack", "serve"
 # The option of `serve`.
 BY_VALUE = "--byValue"
 # The option of `dump`, with its values; and those of `find`, each with a text or a number, or with nothing.
@@ -39,15 +38,15 @@ def become_program(words: list[str]) -> None:
         program, rest = rest[1], rest[2:]
     if rest[:1] == [_SERVE]:
         return _become_session(program, rest[1:])
-    if not rest or rest[0] not in (*_OF_DUMPS, *_OF_TEXTS):
+    if not rest or rest[0] not in (*_OF_DUMPS, PACK):
         return
     command, (files, options) = rest[0], _split(rest[1:])
     if len(files) != 1 or files[0] != "-" and files[0].startswith("-") or not _are_of(command, options):
         return
     file = files[0]
     wide = located_wide(program)
-    if wide and _has_streams() and (command in _OF_TEXTS or _take_as_input(file)):
-        _become(wide, [command, file if command in _OF_TEXTS else "-", *(word for option in options for word in option)])
+    if wide and _has_streams() and (take_text(file) if command == PACK else _take_as_input(file)):
+        _become(wide, [command, "-", *(word for option in options for word in option)])
 
 
 def _become_session(program: str, words: list[str]) -> None:
@@ -130,7 +129,7 @@ def _ignored_by_shell() -> int:
     """The signals that this process was started with as ignored, a bit for each.
 
     Where `bsonkit` has not noted them, as below `python3 -m bsonfind`, they are those of the parent, unless that is a Python: it ignores
-    signals that it does not hand on.
+    signals that it does not pass on.
     """
     number, _, ignored = os.environ.pop(_NOTED, "").partition(" ")
     if number == str(os.getpid()):
@@ -155,9 +154,23 @@ def _take_as_input(name: str) -> bool:
     """Makes standard input of a plain file; False if it is another one."""
     descriptor = 0 if name == "-" else _plain(name)
     if descriptor:
-        os.dup2(descriptor, 0)
-        os.close(descriptor)
+        _make_input(descriptor)
     return descriptor is not None and (descriptor > 0 or _is_plain(0))
+
+
+def take_text(name: str) -> bool:
+    """Makes standard input of a text; False if it cannot be opened."""
+    try:
+        if name != "-":
+            _make_input(os.open(name, os.O_RDONLY))
+    except (OSError, ValueError):
+        return False  # Whoever packs it says so.
+    return not stat.S_ISDIR(os.fstat(0).st_mode)
+
+
+def _make_input(descriptor: int) -> None:
+    os.dup2(descriptor, 0)
+    os.close(descriptor)
 
 
 def _plain(name: str) -> int | None:

@@ -11,7 +11,7 @@ import threading
 from .._errors import BsonfindError
 from .arguments import FAILED, FAULTY, Refused, parser
 from .commands import AS_THE_PROGRAM, run
-from .console import CannotWrite, NAME
+from .console import CannotWrite, NAME, need_output
 
 # As `typing.TYPE_CHECKING`, without `typing`, which takes long to import.
 TYPE_CHECKING = False
@@ -31,6 +31,7 @@ def run_command(words: Sequence[str], name: str) -> int:
         try:
             known = parser(name).parse_args(words)
             failed = FAULTY if known.command in AS_THE_PROGRAM else FAILED
+            need_output()
             status = run(known)
         except SystemExit as end:  # of the usage, or after --help
             status = end.code if isinstance(end.code, int) else FAILED
@@ -67,8 +68,6 @@ def _prepare_streams() -> None:
         sys.stdout.reconfigure(encoding="utf-8", errors="surrogateescape")
     if isinstance(sys.stderr, io.TextIOWrapper):
         sys.stderr.reconfigure(encoding="utf-8", errors="surrogateescape")
-    if sys.stdout is None:
-        raise CannotWrite("cannot write: standard output is closed")
 
 
 def _terminate(number: int, _: object) -> NoReturn:

@@ -47,6 +47,8 @@ class Source:
         self._start = self._read = 0
         # Of a collection of an archive what the list of this says, once it is read.
         self.listed: list[Listed] = []
+        # What went wrong with the file where the last inputs end.
+        self.errors: list[Exception] = []
         if self.name == "-" or not self._is_pipe():
             status = os.fstat(self.file.fileno())
             if stat.S_ISREG(status.st_mode):
@@ -119,11 +121,10 @@ class Source:
         """
         limit = framing.LARGEST_INPUT if most is None else most
         if self.is_packed or self.size is None or self.size > limit:
-            errors: list[Exception] = []
-            for offset, first, pieces in framing.inputs(up_to_error(self.pieces(), errors), limit):
+            for offset, first, pieces in framing.inputs(up_to_error(self.pieces(), self.errors), limit):
                 yield Input(offset, first, Dump(pieces))
-            if errors:
-                raise errors[0]
+            if self.errors:
+                raise self.errors[0]
         else:
             self.refuse_archive()
             self.file.seek(self._start)
