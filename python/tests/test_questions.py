@@ -120,10 +120,8 @@ class Pipes(Room):
         for ask in (lambda: len(list(find(path, program=PROGRAM))), lambda: count_documents(path, program=PROGRAM)):
             threading.Thread(target=lambda: path.write_bytes(PEOPLE.read_bytes()), daemon=True).start()
             self.assertEqual(ask(), 500)
-        threading.Thread(target=lambda: path.write_bytes(b""), daemon=True).start()
         with self.assertRaisesRegex(DumpError, "is no regular file"):
             plan(path)
-
 
     def test_descriptors(self) -> None:
         """A pipe of this process, such as one that the shell makes by <(..)."""
