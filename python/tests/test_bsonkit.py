@@ -90,6 +90,16 @@ class Arguments(Room):
         for words in (("find", str(PEOPLE), "--lim", "1"), ("audit", str(PEOPLE), "--js"), ("--prog", PROGRAM, "check", str(PEOPLE))):
             self.assertRegex(self.refused(*words), "unrecognized arguments|invalid choice")
 
+    def test_options_that_are_given_twice(self) -> None:
+        """They are refused, as by the program, and for each form of a dump alike."""
+        packed = str(self.file(gzip.compress(PEOPLE.read_bytes()), "dump.bson.gz"))
+        for words, option in (
+            (("find", "--limit", "1", "--limit=2"), "--limit"), (("find", "--query", "{}", "--query", '{"a":1}'), "--query"), (("find", "--count", "--count"), "--count"),
+            (("dump", "--jsonFormat", "relaxed", "--jsonFormat=canonical"), "--jsonFormat"), (("audit", "--quiet", "--quiet"), "--quiet"),
+        ):  # fmt: skip
+            for dump in (str(PEOPLE), packed):
+                self.assertIn(f"argument {option}: it is given twice", self.refused(words[0], dump, *words[1:]))
+
     def test_standard_input_twice(self) -> None:
         for words in (("check", "-", "-"), ("dump", "-", str(PEOPLE), "-"), ("compare", "-", "-")):
             self.assertEqual(self.refused(*words), "bsonkit: standard input is named twice")

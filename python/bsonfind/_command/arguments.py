@@ -23,6 +23,8 @@ FORMATS = ("canonical", "relaxed")
 MOST = 2_147_483_647
 # How many faults of a file `audit` reports one by one.
 MOST_FAULTS = 10
+# The options that may be given several times.
+_REPEATED = ("--only", "--program")
 _DIGITS = re.compile(r"\+?[0-9]+", re.ASCII)
 _EPILOG = "COMMAND --help explains a command and its status. ARCHIVE::db.collection names a collection of an archive as a FILE."
 
@@ -49,7 +51,12 @@ class _Parser(argparse.ArgumentParser):
         super().__init__(allow_abbrev=False, formatter_class=_Help, **how)  # type: ignore[arg-type]
 
     def parse_known_args(self, args: Any = None, namespace: Any = None) -> Any:
-        """Takes names of files after options too, which else are not known."""
+        """Takes names of files after options too, which else are not known, and each option once, as the program does."""
+        words = args[: args.index("--")] if "--" in args else args
+        given = [it.partition("=")[0] for it in words if it.startswith("--")]
+        for name in sorted({*given} & {*self._option_string_actions} - {*_REPEATED}):
+            if given.count(name) > 1:
+                self.error(f"argument {name}: it is given twice")
         known, others = super().parse_known_args(args, namespace)
         if hasattr(known, "files"):
             known.files = [*known.files, *(it for it in others if it == "-" or not it.startswith("-"))]

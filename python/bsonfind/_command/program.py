@@ -88,11 +88,11 @@ def _split(words: list[str]) -> tuple[list[str], list[list[str]]]:
 
 
 def _are_of(command: str, options: list[list[str]]) -> bool:
-    """Whether a command has these options, and they go together: `dump` has that of a format, and `find` the others."""
+    """Whether a command has these options, each once, and they go together: `dump` has that of a format, and `find` the others."""
     names = [it[0].partition("=")[0] for it in options]
     if command == "dump":
         return names in ([], [_FORMAT])
-    is_whole = not any(set(it) <= set(names) for it in _EITHER)
+    is_whole = len({*names}) == len(names) and not any({*it} <= {*names} for it in _EITHER)
     return not options or (command == "find" and _FORMAT not in names and is_whole)
 
 
