@@ -300,7 +300,7 @@ class BadInput(Room):
             ((path, missing, f"{linked}/missing.bson"), f"{missing} is named twice"),
             ((path, good, f"{missing}/a"), f"{missing}/a: No such file or directory"),
             ((path, good, str(self.room / "folder")), f"{self.room}/folder: Is a directory"),
-            ((str(self.room / "folder"), good, bad), f"{self.room}/folder: Is a directory"),
+            ((str(self.room / "folder"), good, bad), f"cannot read {self.room}/folder: it is a directory: --out salvages all dumps below one"),
         ):
             name, one, other = words
             self.refused("salvage", name, "--good", one, "--bad", other, told=told)
