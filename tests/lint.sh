@@ -36,8 +36,8 @@ command -v "$need" >/dev/null || need=pyflakes
 look 'names of python' "$need" python
 look 'names of tools, tests, bench, examples' "$need" tools tests bench examples
 need=shellcheck
-# shellcheck disable=SC2046 # no script has a space in its name
-look 'scripts' shellcheck $(grep -rlE '^#!/bin/(sh|bash)' .ci packaging tests tools) completions/*.bash
+# shellcheck disable=SC2046 # no script has a space in its name; bsonkit is one of Python after its first lines
+look 'scripts' shellcheck $(grep -rlE --exclude=bsonkit '^#!/bin/(sh|bash)' .ci packaging tests tools) completions/*.bash
 look 'scripts of examples' shellcheck -s bash examples/*.sh
 need='man'
 for manual in man/*.1; do

@@ -54,8 +54,8 @@ class _Parser(argparse.ArgumentParser):
         """Takes names of files after options too, which else are not known, and each option once, as the program does."""
         words = args[: args.index("--")] if "--" in args else args
         given = [it.partition("=")[0] for it in words if it.startswith("--")]
-        for name in sorted({*given} & {*self._option_string_actions} - {*_REPEATED}):
-            if given.count(name) > 1:
+        for name in given:
+            if name in self._option_string_actions and name not in _REPEATED and given.count(name) > 1:
                 self.error(f"argument {name}: it is given twice")
         known, others = super().parse_known_args(args, namespace)
         if hasattr(known, "files"):

@@ -117,10 +117,23 @@ def _run_find(words: argparse.Namespace) -> int:
 
 
 def _run_serve(words: argparse.Namespace) -> int:
-    """Becomes the program, which reads commands from standard input; only an error comes back."""
-    from .serving import serve
+    """Becomes the program, which reads commands from standard input; only an error comes back.
 
-    serve(words.file, words.byValue, words.program)
+    What is packed, or can be read only once, is first written to a file without a name.
+    """
+    from .._dumps.originals import Original
+    from .._dumps.sources import Source
+    from .._run.wide import wide_program
+    from .program import BY_VALUE, SERVE, execute
+
+    if words.file == "-":
+        raise Refused("serve reads commands from standard input: the dump is a file")
+    wide = wide_program(words.program)
+    with Source(words.file, is_named=True) as source:
+        file = source.dump().file or Original.of_pieces(source.pieces()).rewound()
+        source.check()
+        os.set_inheritable(file.fileno(), True)
+        execute(wide, [SERVE, f"/dev/fd/{file.fileno()}", *([BY_VALUE] if words.byValue else [])])
     return FAULTY
 
 

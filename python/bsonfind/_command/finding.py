@@ -48,7 +48,8 @@ class Finding:
             console.problem(str(error))
             return False
         except CommandError as error:
-            raise _Refused(error.line or str(error)) from None
+            # As the program reports it.
+            raise BsonfindError(error.line or str(error)) from None
         return True
 
     def _print_all(self, source: Source) -> None:
@@ -99,7 +100,3 @@ class Finding:
     def _run(self, dump: Dump, request: Request, *options: str, stdout: int = subprocess.PIPE) -> Run:
         index = [] if self.index is None else [f"--index={self.index}"]
         return finding(dump, request, self.program, [*index, *options], stdout=stdout)
-
-
-class _Refused(BsonfindError):
-    """A refused request, as the program reports it."""

@@ -16,7 +16,7 @@ _LARGEST = 4_294_967_295
 # The first bytes of what is no plain dump: an archive, or a file of gzip, which may hold one.
 _OTHERS = (b"\x6d\xe2\x99\x81", b"\x1f\x8b")
 # The commands of one plain dump that are those of the program, the one of a text, and the one that reads commands from standard input.
-_OF_DUMPS, PACK, _SERVE = ("check", "dump", "find"), "pack", "serve"
+_OF_DUMPS, PACK, SERVE = ("check", "dump", "find"), "pack", "serve"
 # The option of `serve`.
 BY_VALUE = "--byValue"
 # The option of `dump`, with its values; and those of `find`, each with a text or a number, or with nothing.
@@ -36,7 +36,7 @@ def become_program(words: list[str]) -> None:
     rest, program = list(words), "bsonfind"
     if rest[:1] == ["--program"] and len(rest) > 1:
         program, rest = rest[1], rest[2:]
-    if rest[:1] == [_SERVE]:
+    if rest[:1] == [SERVE]:
         return _become_session(program, rest[1:])
     if not rest or rest[0] not in (*_OF_DUMPS, PACK):
         return
@@ -58,7 +58,7 @@ def _become_session(program: str, words: list[str]) -> None:
     descriptor = _plain(files[0])
     if descriptor is not None:
         os.set_inheritable(descriptor, True)
-        _become(wide, [_SERVE, f"/dev/fd/{descriptor}", *options])
+        _become(wide, [SERVE, f"/dev/fd/{descriptor}", *options])
         os.close(descriptor)
 
 
@@ -176,20 +176,15 @@ def _make_input(descriptor: int) -> None:
 def _plain(name: str) -> int | None:
     """A descriptor of a plain file; None if it is another one."""
     try:
-        descriptor = _opened(name)
+        if name.endswith(".gz") or not stat.S_ISREG(os.stat(name).st_mode):
+            return None
+        descriptor = os.open(name, os.O_RDONLY)
     except (OSError, ValueError):
         return None  # What reads it says what is wrong with it.
-    if descriptor is not None and not _is_plain(descriptor):
-        os.close(descriptor)
-        return None
-    return descriptor
-
-
-def _opened(name: str) -> int | None:
-    """A descriptor of a regular file, which may be packed by its name."""
-    if name.endswith(".gz") or not stat.S_ISREG(os.stat(name).st_mode):
-        return None
-    return os.open(name, os.O_RDONLY)
+    if _is_plain(descriptor):
+        return descriptor
+    os.close(descriptor)
+    return None
 
 
 def _is_plain(descriptor: int) -> bool:

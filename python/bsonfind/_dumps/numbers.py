@@ -9,9 +9,8 @@ from typing import Union
 
 # A number as it is: of a double a float, of a decimal128 a Decimal. Python compares them by their values, exactly.
 Number = Union[int, float, Decimal]
-# The types of numbers in a dump, with how many bytes each has, and the bits of the digits of a decimal128.
+# The types of numbers in a dump, and the bits of the digits of a decimal128.
 DOUBLE, DECIMAL, INTEGERS = 0x01, 0x13, (0x10, 0x12)
-_SIZES = {DOUBLE: 8, 0x10: 4, 0x12: 8, DECIMAL: 16}
 _DIGITS = (1 << 113) - 1
 # As decimal128 rounds: to 34 digits, and no further than its exponents reach.
 DECIMAL128 = Context(prec=34, rounding=ROUND_HALF_EVEN, Emin=-6143, Emax=6144, clamp=1, traps=[])
@@ -24,7 +23,7 @@ def number_of(value: bytes) -> Number | None:
     if kind == DOUBLE:
         double: float = _double_at(value, 1)[0]
         return double
-    if kind not in _SIZES:
+    if kind != DECIMAL and kind not in INTEGERS:
         return None
     bits = int.from_bytes(value[1:], "little", signed=True)
     return _decimal_of(bits) if kind == DECIMAL else bits
