@@ -1,6 +1,7 @@
 //! A process: a program over the system's files and standard streams.
 
 use crate::program::Program;
+use crate::query::read_query;
 use crate::usage::print_text;
 use crate::words::{is_standard_input, requests_version};
 use bd_cli_args::WordsFault;
@@ -94,16 +95,50 @@ fn refuse<P: Program>(
     program.report(fault, &mut out, &mut err)
 }
 
-/// Runs a command over its file, which is opened here.
+/// Runs a command, after its query's file was read, if it names one.
 fn run_command<P: Program>(
     rt: &HostRuntime,
     program: &P,
     command: &P::Command,
     output_buffer: &Waiting,
 ) -> Status {
+    let Some(name) = program.query_file(command) else {
+        return run_asking(rt, program, command, None, output_buffer);
+    };
+    match query_in(rt, program.name(), name) {
+        Ok(query) => run_asking(rt, program, command, Some(query.as_slice()), output_buffer),
+        Err(status) => status,
+    }
+}
+
+/// The text of a query in the file of that name. A fault is reported, and has this status.
+fn query_in(rt: &HostRuntime, program: &str, name: &str) -> Result<Vec<u8>, Status> {
+    let mut err = SystemOutput::new(rt.stderr());
+    if is_standard_input(name) {
+        return read_query(
+            rt.alloc(),
+            program,
+            &mut SystemInput::new(rt.reader()),
+            &mut err,
+        );
+    }
+    match fs::open(rt, name) {
+        Ok(opened) => read_query(rt.alloc(), program, &mut SystemInput::new(opened), &mut err),
+        Err(_) => Err(report_open_fault(program, name, &mut err)),
+    }
+}
+
+/// Runs a command with this text of its query over its file, which is opened here.
+fn run_asking<P: Program>(
+    rt: &HostRuntime,
+    program: &P,
+    command: &P::Command,
+    query: Option<&[u8]>,
+    output_buffer: &Waiting,
+) -> Status {
     let file = program.file(command);
     if is_standard_input(file) {
-        return run_over(rt, program, command, rt.reader(), output_buffer);
+        return run_over(rt, program, command, query, rt.reader(), output_buffer);
     }
     let Ok(opened) = fs::open(rt, file) else {
         return report_open_fault(program.name(), file, &mut SystemOutput::new(rt.stderr()));
@@ -113,7 +148,7 @@ fn run_command<P: Program>(
         let mut err = SystemOutput::new(rt.stderr());
         return report_read_fault(program.name(), ReadFault::Device, &mut err);
     }
-    run_over(rt, program, command, opened, output_buffer)
+    run_over(rt, program, command, query, opened, output_buffer)
 }
 
 /// Runs a command over the input in its file.
@@ -121,6 +156,7 @@ fn run_over<P: Program, F: Read + Drop>(
     rt: &HostRuntime,
     program: &P,
     command: &P::Command,
+    query: Option<&[u8]>,
     reader: F,
     output_buffer: &Waiting,
 ) -> Status {
@@ -139,5 +175,13 @@ fn run_over<P: Program, F: Read + Drop>(
         output_buffer,
     });
     let (mut out, mut err) = outputs(rt, output_buffer);
-    program.run(alloc, command, &mut file, &mut commands, &mut out, &mut err)
+    program.run(
+        alloc,
+        command,
+        query,
+        &mut file,
+        &mut commands,
+        &mut out,
+        &mut err,
+    )
 }

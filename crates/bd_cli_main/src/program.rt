@@ -22,18 +22,24 @@ pub trait Program {
     /// The file that a command names.
     fn file<'a>(&self, command: &'a Self::Command) -> &'a str;
 
+    /// The file that has the text of a command's query, if it names one. It is read before the file of the command is opened.
+    fn query_file<'a>(&self, _command: &'a Self::Command) -> Option<&'a str> {
+        None
+    }
+
     /// How many bytes of its file a command requests from the system at once.
     fn block(&self, command: &Self::Command) -> usize;
 
     /// Whether a command reads standard input beside its file.
     fn serves(&self, command: &Self::Command) -> bool;
 
-    /// Runs a command, and returns the exit status. Its file is read from `file`, and what else it reads from `commands`; the
-    /// results go to `out`, and messages to `err`.
+    /// Runs a command, and returns the exit status. `query` is what was read of its query's file. Its own file is read from `file`, and
+    /// what else it reads from `commands`; the results go to `out`, and messages to `err`.
     fn run<F: Input, C: Input, O: Output, E: Output>(
         &self,
         alloc: Global,
         command: &Self::Command,
+        query: Option<&[u8]>,
         file: &mut F,
         commands: &mut C,
         out: &mut O,

@@ -43,6 +43,7 @@ impl Program for Bsonfind {
         &self,
         alloc: Global,
         order: &Order,
+        _query: Option<&[u8]>,
         file: &mut F,
         commands: &mut C,
         out: &mut O,
