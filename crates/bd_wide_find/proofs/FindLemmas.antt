@@ -31,41 +31,41 @@ use Rattle.bd_wide_find.specs.Load.{FailsToLoadWide}
 use Rattle.bd_wide_find.specs.inside.Fault.{IsReported, ReportsAs}
 use Rattle.bd_wide_find.proofs.AnswerLemmas.{coded_answers}
 
-module _ {program : List ℕ} (form : Form) (options : FindOptions) (file : Over Reader) where
+module _ {program : List ℕ} (form : Form) (text : List ℕ) (options : FindOptions) (file : Over Reader) where
   -- a run of a case is a run of `find`
-  pub of_case : (c : FindCase options file) {out err : Over Writer} {status : Status} → Prints program (case_run form c) out err status
-      → Prints program (wide_find_run form options file) out err status
+  pub of_case : (c : FindCase text options file) {out err : Over Writer} {status : Status} → Prints program (case_run form c) out err status
+      → Prints program (wide_find_run form text options file) out err status
   of_case c (inl (output, is, took, reported)) = inl (output, (c, is), took, reported)
-  of_case c (inr (inl (text, piece, next, failed, reported))) = inr (inl (text, piece, (c, next), failed, reported))
-  of_case c (inr (inr (text, begun, took, reported))) = inr (inr (text, inl (c, begun), took, reported))
+  of_case c (inr (inl (printed, piece, next, failed, reported))) = inr (inl (printed, piece, (c, next), failed, reported))
+  of_case c (inr (inr (printed, begun, took, reported))) = inr (inr (printed, inl (c, begun), took, reported))
 
   module _ (out err_old err_new : Writer) (status : Status) where
     -- memory ran out before anything was printed
     pub runs_out : (file.after ≡ file.before) ⊎ ((bytes : List ℕ) × ReadsInput file (Ok bytes))
         → ReportsMessage (between err_old err_new) (error_line program no_memory) Failed status
-        → Prints program (wide_find_run form options file) (between out out) (between err_old err_new) status
+        → Prints program (wide_find_run form text options file) (between out out) (between err_old err_new) status
     runs_out read reported = inr (inr ([], inr (refl, read), takes_none out, reported))
 
     -- a fault of the options was reported
-    pub reports_fault : (IsMessage : List ℕ → Type 0) (case_of : (message : List ℕ) → IsMessage message → FindCase options file)
+    pub reports_fault : (IsMessage : List ℕ → Type 0) (case_of : (message : List ℕ) → IsMessage message → FindCase text options file)
         → ((message : List ℕ) (is : IsMessage message) → case_run form (case_of message is) ≡ partial_run (refusal_output message))
         → (file.after ≡ file.before) ⊎ ((bytes : List ℕ) × ReadsInput file (Ok bytes))
         → (fault : SearchFault) → ReportsAs IsMessage fault → IsReported program (between err_old err_new) status fault
-        → Prints program (wide_find_run form options file) (between out out) (between err_old err_new) status
+        → Prints program (wide_find_run form text options file) (between out out) (between err_old err_new) status
     reports_fault IsMessage case_of runs read faults.NoMemory is reported = runs_out read reported
     reports_fault IsMessage case_of runs read (faults.Refused refused) is reported =
         let message = refused_text (reason_of refused) in
         of_case (case_of message is) (subst (λ run. Prints program run (between out out) (between err_old err_new) status) (sym (runs message is))
         (refusal_is_output program out out err_old err_new status message (explain_refusal program (between err_old err_new) (reason_of refused) status reported)))
-    reports_fault IsMessage case_of runs read (faults.Message text) is reported =
-        let message = string_bytes text in
+    reports_fault IsMessage case_of runs read (faults.Message words) is reported =
+        let message = string_bytes words in
         of_case (case_of message is) (subst (λ run. Prints program run (between out out) (between err_old err_new) status) (sym (runs message is))
         (refusal_is_output program out out err_old err_new status message (inl reported)))
 
     -- the input is no dump in memory, which is reported
-    pub load_reported : (a : IsAccepted options) (fault : InputFault) → FailsToLoadWide file fault
+    pub load_reported : (a : IsAccepted text options) (fault : InputFault) → FailsToLoadWide file fault
         → ReportsLoadFault program (between err_old err_new) status fault
-        → Prints program (wide_find_run form options file) (between out out) (between err_old err_new) status
+        → Prints program (wide_find_run form text options file) (between out out) (between err_old err_new) status
     load_reported a (input_faults.Unread fault) (inl read) (inl reported) =
         of_case (cases.unread fault a read) (refusal_is_output program out out err_old err_new status (read_words fault) (inl reported))
     load_reported a (input_faults.Unread fault) (inr (memory, read)) (inl reported) =

@@ -11,7 +11,7 @@ use Rattle.bd_wide_number.specs.declared.number.Number.{Number}
 use Rattle.bd_wide_rank.specs.Worth.{worth}
 use Rattle.bd_wide_copy.specs.Dump.{AreDocuments}
 use Rattle.bd_wide_substitute.specs.Both.{IsRead}
-use Rattle.bd_wide_find.specs.Find.{IsNoRequest, IsRefused, IsRefusedOver, query_text}
+use Rattle.bd_wide_find.specs.Find.{IsNoRequest, IsRefused, IsRefusedOver}
 use Rattle.bd_wide_find.specs.declared.coded.Coded.{Coded}
 use Rattle.bd_wide_find.specs.Coded.{CopiesDump, IsTableOf}
 use Rattle.bd_wide_find.specs.inside.Fault.{ReportsAs}
@@ -22,11 +22,11 @@ pub parts_are : (d ps : Doc) → AreParts (doc (fields_of d)) ps → ps ≡ d
 parts_are d ps are = are ∙ pairs_of-fields_of d
 
 -- what the options ask is refused
-pub refused_options : (options : FindOptions) (wholes texts : Doc) (numbers : List Number) → IsRead (query_text options) wholes texts numbers
-    → (fault : SearchFault) → ReportsSearchFault (requested_with options texts) fault → ReportsAs (IsRefused options) fault
-refused_options options wholes texts numbers read faults.NoMemory reported = tt
-refused_options options wholes texts numbers read (faults.Refused refused) reported = inr (wholes, texts, numbers, read, reported)
-refused_options options wholes texts numbers read (faults.Message message) reported = inr (wholes, texts, numbers, read, reported)
+pub refused_options : (text : List ℕ) (options : FindOptions) (wholes texts : Doc) (numbers : List Number) → IsRead text wholes texts numbers
+    → (fault : SearchFault) → ReportsSearchFault (requested_with options texts) fault → ReportsAs (IsRefused text options) fault
+refused_options text options wholes texts numbers read faults.NoMemory reported = tt
+refused_options text options wholes texts numbers read (faults.Refused refused) reported = inr (wholes, texts, numbers, read, reported)
+refused_options text options wholes texts numbers read (faults.Message message) reported = inr (wholes, texts, numbers, read, reported)
 
 -- a message of one property is one of a weaker
 pub reports_more : (Is More : List ℕ → Type 0) → ((message : List ℕ) → Is message → More message) → (fault : SearchFault) → ReportsAs Is fault

@@ -51,8 +51,8 @@ module _ (bytes : List ℕ) (table : List ℤ) (copy : Dump) (ds : List Doc) (ar
 
 -- ---- the runs
 
-module _ (options : FindOptions) (q : Question) (requests : ReadsOptions options q) where
-  pub accepted : IsAccepted options
+module _ (text : List ℕ) (options : FindOptions) (q : Question) (requests : ReadsOptions text options q) where
+  pub accepted : IsAccepted text options
   accepted = record {
     wholes = pairs q.query.wholes;
     texts = pairs q.query.texts;
@@ -66,17 +66,17 @@ module _ (options : FindOptions) (q : Question) (requests : ReadsOptions options
   module _ (form : Form) (program : List ℕ) (file : Over Reader) (bytes : List ℕ) (read : ReadsInput file (Ok bytes)) where
     pub plain_run : {out err : Over Writer} {status : Status} (ds : List Doc) → q.query.numbers.items ≡ [] → IsDump ds bytes
         → Prints program (found_run (printing_in form (IsNamedText ds) (IsDocumentAt bytes)) options.batch (request_view q.search.request, q.search.token) bytes ds) out err status
-        → Prints program (wide_find_run form options file) out err status
+        → Prints program (wide_find_run form text options file) out err status
     unfolding accepted
-    plain_run ds none dump prints = of_case form options file (cases.plain accepted bytes ds read none dump) prints
+    plain_run ds none dump prints = of_case form text options file (cases.plain accepted bytes ds read none dump) prints
 
     pub refused_run : HasValues q.query.numbers.items bytes → (out err_old err_new : Writer) (status : Status) (fault : SearchFault)
         → ReportsAs (IsRefusedOver options q.query.numbers.items (pairs q.query.wholes) (pairs q.query.texts) bytes) fault
         → IsReported program (between err_old err_new) status fault
-        → Prints program (wide_find_run form options file) (between out out) (between err_old err_new) status
+        → Prints program (wide_find_run form text options file) (between out out) (between err_old err_new) status
     unfolding accepted
     refused_run values out err_old err_new status fault is reported =
-        reports_fault form options file out err_old err_new status (IsRefusedOver options q.query.numbers.items (pairs q.query.wholes) (pairs q.query.texts) bytes)
+        reports_fault form text options file out err_old err_new status (IsRefusedOver options q.query.numbers.items (pairs q.query.wholes) (pairs q.query.texts) bytes)
         (λ message of. cases.refused_over accepted bytes message read values of) (λ message of. refl) (inr (bytes, read)) fault is reported
 
     module _ (c : Coded) (s : SearchesCopy options q.query.numbers.items (pairs q.query.wholes) (pairs q.query.texts) bytes c) where
@@ -88,7 +88,7 @@ module _ (options : FindOptions) (q : Question) (requests : ReadsOptions options
 
       pub by_value_run : HasValues q.query.numbers.items bytes → {out err : Over Writer} {status : Status} (taken : Option ℕ) → taken ≡ options.batch
           → Prints program (found_run printing taken (request_view c.search.request, c.search.token) (bytes_of_dump c.copy) (documents c.copy)) out err status
-          → Prints program (wide_find_run form options file) out err status
+          → Prints program (wide_find_run form text options file) out err status
       unfolding accepted requested
       by_value_run values {out} {err} {status} taken size prints =
           let request = s.searches.0 in
@@ -99,7 +99,7 @@ module _ (options : FindOptions) (q : Question) (requests : ReadsOptions options
           let resumed = subst (λ (x : Option Token). Prints program (found_run printing options.batch (coded, x) (bytes_of_dump c.copy) (documents c.copy)) out err status) s.searches.1 viewed in
           let copied = subst (λ (x : List Doc). Prints program (found_run printing options.batch (coded, request.token) (bytes_of_dump c.copy) x) out err status)
           (s.copies.documents_are s.ds s.has.are) resumed in
-          of_case form options file (cases.by_value accepted bytes read values requested)
+          of_case form text options file (cases.by_value accepted bytes read values requested)
           (subst (λ run. Prints program run out err status)
           (coded_runs s.table r (alike_kept s.table request.request.filter request.alike) s.ds (numbers_are_of s.table s.ds s.has.same)
           (bytes_of_dump c.copy) request.coded.text printing options.batch request.token) copied)

@@ -1,5 +1,5 @@
--- What `bsonwide find` prints for its options and an input: numbers of all types match, and are sorted, by their values.
-use Rattle.std.specs.Prelude.{◌≡◌, ◌⊎◌, ℕ, ℤ, true, false, List, [], ◌∷◌, codes, Option, unwrap_or, Ok, Err}
+-- What `bsonwide find` prints for a query, its options and an input: numbers of all types match, and are sorted, by their values.
+use Rattle.std.specs.Prelude.{◌≡◌, ◌⊎◌, ℕ, ℤ, true, false, List, [], ◌∷◌, codes, Option, Ok, Err}
 use Rattle.bd_value.specs.{Tree.Doc, Tree.doc, Tree.fields_of, Fits.Fits}
 use Rattle.bd_io_device.specs.Devices.{Over, Reader, read_words}
 use Rattle.bd_io_device.specs.declared.reading.ReadFault.{ReadFault}
@@ -24,27 +24,22 @@ use Rattle.bd_wide_find.specs.{Printer.IsWideText, Types.fields_are_alike}
 
 -- ---- what is requested
 
--- the text of the query; without one it is `{}`
-abbrev pub query_text : FindOptions → List ℕ
-query_text options = unwrap_or options.query (codes "{}")
-
 -- The text of a query is refused with this message.
 abbrev pub IsRefusedText : List ℕ → List ℕ → Type 0
 IsRefusedText text message = (fault : JsonFault) × IsUnread text fault × (message ≡ json_fault_text (codes "query") fault)
 
--- The options are refused with this message, whatever the file contains: by the text of the query, or by what it or another of
--- them requests.
-abbrev pub IsRefused : FindOptions → List ℕ → Type 0
-IsRefused options message = IsRefusedText (query_text options) message
-    ⊎ ((wholes : Doc) × (texts : Doc) × (numbers : List Number) × IsRead (query_text options) wholes texts numbers
+-- The query with this text, or one of the other options, is refused with this message, whatever the file contains.
+abbrev pub IsRefused : List ℕ → FindOptions → List ℕ → Type 0
+IsRefused text options message = IsRefusedText text message
+    ⊎ ((wholes : Doc) × (texts : Doc) × (numbers : List Number) × IsRead text wholes texts numbers
     × (requested_with options texts ≡ Err message))
 
--- What the options ask: a query, as two documents and the numbers where they differ.
-pub record IsAccepted (options : FindOptions) : Type 0 where
+-- What the text of a query and the other options ask: a query, as two documents and the numbers where they differ.
+pub record IsAccepted (text : List ℕ) (options : FindOptions) : Type 0 where
   pub wholes : Doc
   pub texts : Doc
   pub numbers : List Number
-  pub read : IsRead (query_text options) wholes texts numbers
+  pub read : IsRead text wholes texts numbers
   pub request : Request
   pub token : Option Token
   pub requested : requested_with options texts ≡ Ok (request, token)
@@ -107,24 +102,24 @@ IsRefusedOver options numbers wholes texts bytes message =
 abbrev pub HasValues : List Number → List ℕ → Type 0
 HasValues numbers bytes = numbers ≡ [] → (ds : List Doc) → IsDump ds bytes → ⊥
 
--- what a run of `find` comes to, by its options and its file
-pub data FindCase (options : FindOptions) (file : Over Reader) : Type 0 where
+-- what a run of `find` comes to, by the text of its query, its options and its file
+pub data FindCase (text : List ℕ) (options : FindOptions) (file : Over Reader) : Type 0 where
   -- the options are refused, and the file is not read
-  refused : (message : List ℕ) → IsRefused options message → file.after ≡ file.before → FindCase options file
+  refused : (message : List ℕ) → IsRefused text options message → file.after ≡ file.before → FindCase text options file
   -- the file was not read to its end
-  unread : (fault : ReadFault) → IsAccepted options → ReadsInput file (Err fault) → FindCase options file
+  unread : (fault : ReadFault) → IsAccepted text options → ReadsInput file (Err fault) → FindCase text options file
   -- a document has a fault
-  faulty : (bytes : List ℕ) (fault : Fault) → IsAccepted options → ReadsInput file (Ok bytes) → IsFirstFault bytes fault
-      → FindCase options file
+  faulty : (bytes : List ℕ) (fault : Fault) → IsAccepted text options → ReadsInput file (Ok bytes) → IsFirstFault bytes fault
+      → FindCase text options file
   -- neither the query nor the dump has a double or a decimal128
-  plain : (a : IsAccepted options) (bytes : List ℕ) (ds : List Doc) → ReadsInput file (Ok bytes) → a.numbers ≡ [] → IsDump ds bytes
-      → FindCase options file
+  plain : (a : IsAccepted text options) (bytes : List ℕ) (ds : List Doc) → ReadsInput file (Ok bytes) → a.numbers ≡ [] → IsDump ds bytes
+      → FindCase text options file
   -- the query or the dump has one, and the dump is searched by value
-  by_value : (a : IsAccepted options) (bytes : List ℕ) → ReadsInput file (Ok bytes) → HasValues a.numbers bytes
-      → IsRequestOver options a.numbers a.wholes a.texts bytes → FindCase options file
+  by_value : (a : IsAccepted text options) (bytes : List ℕ) → ReadsInput file (Ok bytes) → HasValues a.numbers bytes
+      → IsRequestOver options a.numbers a.wholes a.texts bytes → FindCase text options file
   -- the query or the dump has one, and the options are refused over this dump
-  refused_over : (a : IsAccepted options) (bytes message : List ℕ) → ReadsInput file (Ok bytes) → HasValues a.numbers bytes
-      → IsRefusedOver options a.numbers a.wholes a.texts bytes message → FindCase options file
+  refused_over : (a : IsAccepted text options) (bytes message : List ℕ) → ReadsInput file (Ok bytes) → HasValues a.numbers bytes
+      → IsRefusedOver options a.numbers a.wholes a.texts bytes message → FindCase text options file
 
 -- what a form prints of the documents that are found, by their texts or their bytes: these texts, one a line; these bytes, joined; or
 -- how many documents they are
@@ -134,22 +129,23 @@ printing_in Form.Bson IsText AreBytes = each_document AreBytes []
 printing_in Form.Count IsText AreBytes = their_count
 
 -- the run of a case in a form: its message alone, or the first batch of the documents that are found, as they are in the dump
-abbrev pub case_run : {options : FindOptions} {file : Over Reader} → Form → FindCase options file → Run
+abbrev pub case_run : {text : List ℕ} {options : FindOptions} {file : Over Reader}
+    → Form → FindCase text options file → Run
 case_run form (refused message _ _) = partial_run (refusal_output message)
 case_run form (unread fault _ _) = partial_run (refusal_output (read_words fault))
 case_run form (faulty bytes fault _ _ _) = partial_run (refusal_output (fault_text fault.document (fault_view fault)))
-case_run {options} form (plain a bytes ds _ _ _) =
+case_run {text} {options} form (plain a bytes ds _ _ _) =
     found_run (printing_in form (IsNamedText ds) (IsDocumentAt bytes)) options.batch (a.request, a.token) bytes ds
-case_run {options} form (by_value a bytes _ _ over) =
+case_run {text} {options} form (by_value a bytes _ _ over) =
     found_run (printing_in form (IsWideText bytes) (IsDocumentAt bytes)) options.batch
     (request_by_value over.table over.requests.request over.requests.coded, over.requests.token) over.copy over.ds
 case_run form (refused_over a bytes message _ _ _) = partial_run (refusal_output message)
 
 -- A run of `find` is that of its case; or memory ran out before anything was printed, and the file was read to its end or not at all.
-abbrev pub wide_find_run : Form → FindOptions → Over Reader → Run
-wide_find_run form options file = record {
-  IsOutput = λ output. (c : FindCase options file) × (case_run form c).IsOutput output;
-  IsNext = λ text piece. (c : FindCase options file) × (case_run form c).IsNext text piece;
-  IsBegun = λ text. ((c : FindCase options file) × (case_run form c).IsBegun text)
-      ⊎ ((text ≡ []) × ((file.after ≡ file.before) ⊎ ((bytes : List ℕ) × ReadsInput file (Ok bytes))));
+abbrev pub wide_find_run : Form → List ℕ → FindOptions → Over Reader → Run
+wide_find_run form text options file = record {
+  IsOutput = λ output. (c : FindCase text options file) × (case_run form c).IsOutput output;
+  IsNext = λ printed piece. (c : FindCase text options file) × (case_run form c).IsNext printed piece;
+  IsBegun = λ printed. ((c : FindCase text options file) × (case_run form c).IsBegun printed)
+      ⊎ ((printed ≡ []) × ((file.after ≡ file.before) ⊎ ((bytes : List ℕ) × ReadsInput file (Ok bytes))));
 }

@@ -29,23 +29,25 @@ use bd_io_device::{Input, Output};
 use bd_wide_copy::WideDump;
 use std::alloc::Global;
 
-/// Reads the whole input unless an option is refused, and prints the first batch of the requested documents in this form;
-/// without a size, all of them. Nothing is written to standard output if the input is not a dump.
+/// Reads the whole input unless the query with this text or an option is refused, and prints the first batch of the requested
+/// documents in this form; without a size, all of them. Nothing is written to standard output if the input is not a dump. The query of
+/// the options is not read.
 pub fn find<R: Input, O: Output, E: Output>(
     alloc: Global,
     program: &str,
     form: Form,
+    text: &[u8],
     options: &FindOptions,
     input: &mut R,
     out: &mut O,
     err: &mut E,
 ) -> Status
     ensures found { Prints program.now
-        (wide_find_run form options.now (over R.state input.old input.new))
+        (wide_find_run form text.now options.now (over R.state input.old input.new))
         (over O.state out.old out.new) (over E.state err.old err.new) result }
     ensures stops_reading { ReadsNoFurther R.read_gives input.old input.new }
 {
-    let question = match read_question(alloc, options) {
+    let question = match read_question(alloc, text, options) {
         Ok(question) => question,
         Err(fault) => return report_fault(alloc, program, &fault, err),
     };
@@ -66,10 +68,11 @@ fn answer<O: Output, E: Output>(
     out: &mut O,
     err: &mut E,
 ) -> Status
-    requires requests { ReadsOptions options.now question }
     requires documents { AreDocuments (bytes_of dump) }
-    ensures { (file : Over Reader) → ReadsInput file (Ok (bytes_of dump)) →
-        Prints program.now (wide_find_run form options.now file)
+    requires fits { fits_batch options.now.batch ≡ true }
+    ensures { (text : List ℕ) (file : Over Reader) → ReadsOptions text options.now question →
+        ReadsInput file (Ok (bytes_of dump)) →
+        Prints program.now (wide_find_run form text options.now file)
         (over O.state out.old out.new) (over E.state err.old err.new) result }
 {
     let Question { query, search } = question;

@@ -9,7 +9,7 @@
 //! // {"a":1.5}, {"a":2}
 //! let bytes = b"\x10\0\0\0\x01a\0\0\0\0\0\0\0\xf8\x3f\0\x0c\0\0\0\x10a\0\x02\0\0\0\0";
 //! let options = FindOptions {
-//!     query: Some(String::from_str(alloc, "{\"a\":{\"$lt\":1.75}}")?),
+//!     query: None,
 //!     sort: None,
 //!     skip: 0,
 //!     limit: 0,
@@ -26,6 +26,7 @@
 //!     alloc,
 //!     "bsonwide",
 //!     Form::Lines,
+//!     b"{\"a\":{\"$lt\":1.75}}",
 //!     &options,
 //!     &mut file,
 //!     &mut out,
@@ -36,7 +37,7 @@
 //! ```
 //!
 //! - `find`: the command, over any devices: `specs/Find.antt`.
-//! - `question`: what its options ask.
+//! - `question`: what its query and its options ask.
 //! - `load`: `load_wide`, a dump of all types in memory: `specs/Load.antt`.
 //! - `coded`: the search with codes, and the copy that is searched: `specs/Coded.antt`.
 //! - `types`: whether a query distinguishes the types of numbers: `specs/Types.antt`.

@@ -1,11 +1,11 @@
 //! What the options of `find` ask of documents of all types.
 
-ghost use Rattle.std.specs.Prelude.{◌≡◌, IfErr, IfOk, OnOk, Ok, codes, option_map, string_bytes, true, unwrap_or};
+ghost use Rattle.std.specs.Prelude.{◌≡◌, IfErr, IfOk, OnOk, Ok, true};
 ghost use Rattle.bd_value.specs.View.{pairs};
 ghost use Rattle.bd_cursor_request.specs.Request.{request_view};
 ghost use Rattle.bd_cli_find.specs.Options.{fits_batch, requested_with};
 ghost use Rattle.bd_wide_substitute.specs.Both.{IsRead};
-ghost use Rattle.bd_wide_find.specs.Find.{IsRefused, IsRefusedText, query_text};
+ghost use Rattle.bd_wide_find.specs.Find.{IsRefused, IsRefusedText};
 ghost use Rattle.bd_wide_find.specs.inside.Fault.{ReportsAs};
 
 use bd_cli_args::FindOptions;
@@ -23,32 +23,31 @@ pub(crate) struct Question {
     pub(crate) search: Search,
 }
 
-/// What the options ask. Without a query all documents match; without a sort they are in file order.
-pub(crate) fn read_question(alloc: Global, options: &FindOptions) -> Result<Question, SearchFault>
-    ensures query { IfOk result (λ q. IsRead (query_text options.now)
+/// What the text of a query and the other options ask. Without a sort the documents are in file order.
+pub(crate) fn read_question(
+    alloc: Global,
+    text: &[u8],
+    options: &FindOptions,
+) -> Result<Question, SearchFault>
+    ensures query { IfOk result (λ q. IsRead text.now
         (pairs q.query.wholes) (pairs q.query.texts) q.query.numbers.items) }
     ensures search { IfOk result (λ q. requested_with options.now (pairs q.query.texts)
         ≡ Ok (request_view q.search.request, q.search.token)) }
     ensures fits { OnOk result (fits_batch options.now.batch ≡ true) }
-    ensures fault { IfErr result (ReportsAs (IsRefused options.now)) }
+    ensures fault { IfErr result (ReportsAs (IsRefused text.now options.now)) }
 {
-    let query = read_text(alloc, &options.query)?;
+    let query = read_text(alloc, text)?;
     let copy = to_document::<Tree<'_>>(alloc, Tree::Doc(&query.texts).parts())?;
     let search = read_search_with(alloc, copy, options)?;
     Ok(Question { query, search })
 }
 
-/// The query in a text; without one it has no pairs.
-fn read_text(alloc: Global, text: &Option<String>) -> Result<WideQuery, SearchFault>
-    ensures query { let text = unwrap_or (option_map string_bytes text.now) (codes "{}") in
-        IfOk result (λ q. IsRead text (pairs q.wholes) (pairs q.texts) q.numbers.items) }
-    ensures fault { let text = unwrap_or (option_map string_bytes text.now) (codes "{}") in
-        IfErr result (ReportsAs (IsRefusedText text)) }
+/// The query in a text.
+fn read_text(alloc: Global, text: &[u8]) -> Result<WideQuery, SearchFault>
+    ensures query { IfOk result (λ q.
+        IsRead text.now (pairs q.wholes) (pairs q.texts) q.numbers.items) }
+    ensures fault { IfErr result (ReportsAs (IsRefusedText text.now)) }
 {
-    let text = match text {
-        Some(text) => text.as_bytes(),
-        None => b"{}",
-    };
     match read_query(alloc, text) {
         Ok(query) => Ok(query),
         Err(fault) => match fault.kind {

@@ -32,7 +32,7 @@ fn find_by_value(rt: HostRuntime) -> Result<(), Fail> {
     // {"a":1.5}, {"a":2}
     let bytes = b"\x10\0\0\0\x01a\0\0\0\0\0\0\0\xf8\x3f\0\x0c\0\0\0\x10a\0\x02\0\0\0\0";
     let options = FindOptions {
-        query: Some(String::from_str(alloc, "{\"a\":{\"$lt\":1.75}}")?),
+        query: None,
         sort: None,
         skip: 0,
         limit: 0,
@@ -49,6 +49,7 @@ fn find_by_value(rt: HostRuntime) -> Result<(), Fail> {
         alloc,
         "bsonwide",
         Form::Lines,
+        b"{\"a\":{\"$lt\":1.75}}",
         &options,
         &mut file,
         &mut out,

@@ -9,13 +9,13 @@ use Rattle.bd_wide_number.specs.declared.number.Number.{Number}
 use Rattle.bd_wide_order.specs.{Query.renumber_request, Ranks.table_codes}
 use Rattle.bd_wide_substitute.specs.Both.{IsRead}
 use Rattle.bd_wide_find.specs.Coded.{CopiesDump}
-use Rattle.bd_wide_find.specs.Find.{HasTable, IsRequest, query_text, request_by_value}
+use Rattle.bd_wide_find.specs.Find.{HasTable, IsRequest, request_by_value}
 use Rattle.bd_wide_find.specs.declared.question.Question.{Question}
 use Rattle.bd_wide_find.specs.declared.coded.Coded.{Coded}
 
--- The question is what the options ask.
-pub record ReadsOptions (options : FindOptions) (q : Question) : Type 0 where
-  pub read : IsRead (query_text options) (pairs q.query.wholes) (pairs q.query.texts) q.query.numbers.items
+-- The question is what the text of a query and the options ask.
+pub record ReadsOptions (text : List ℕ) (options : FindOptions) (q : Question) : Type 0 where
+  pub read : IsRead text (pairs q.query.wholes) (pairs q.query.texts) q.query.numbers.items
   pub requested : requested_with options (pairs q.query.texts) ≡ Ok (request_view q.search.request, q.search.token)
   pub fits : fits_batch options.batch ≡ true
 

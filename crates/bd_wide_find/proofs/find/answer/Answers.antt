@@ -9,10 +9,10 @@ use Rattle.bd_wide_find.proofs.find.answer.Goals.{else-is_empty-via-then-is_empt
 use Rattle.bd_wide_find.proofs.find.answer.Goals as goal
 
 pub returns-then-is_plain : goal.returns-then-is_plain
-returns-then-is_plain g c = λ file read.
+returns-then-is_plain g c = λ text file requests read.
     let (ds, dump) = c.is_plain.ensures.0 c.if-is_plain.true in
     let none : c.args.question.query.numbers.items ≡ [] = search (rules, nat_tests, nil_from_length) in
-    plain_run c.args.options.now c.args.question c.requires.requests c.args.form c.args.program.now file (bytes_of c.args.dump) read ds none dump (c.answer_plain.ensures ds dump)
+    plain_run text c.args.options.now c.args.question requests c.args.form c.args.program.now file (bytes_of c.args.dump) read ds none dump (c.answer_plain.ensures ds dump)
 
 pub print_form-requires-clause-within_limit : goal.print_form-requires-clause-within_limit
 print_form-requires-clause-within_limit g c =
@@ -30,7 +30,7 @@ print_form-requires-clause-bytes g c =
     can_print_copied (bytes_of c.args.dump) s.table c.in-Ok.field-0.copy s.ds s.has.are s.copies
 
 pub returns-in-Ok : goal.returns-in-Ok
-returns-in-Ok g c = λ file read.
+returns-in-Ok g c = λ text file requests read.
     let batch : c.options.inside.batch ≡ c.args.options.now.batch = ap (λ (o : FindOptions). o.batch) c.options.view_is in
     let values : HasValues c.args.question.query.numbers.items (bytes_of c.args.dump) = elim c.else-is_empty.branch [
       | else-is_empty-via-then-is_empty+else-is_plain w ↦ λ none ds dump. true≢false (sym (w.is_plain.ensures.1 (ds, dump)) ∙ w.if-is_plain.false)
@@ -39,11 +39,11 @@ returns-in-Ok g c = λ file read.
           omega (arith, c.args.question.query.numbers.ok.0, ap (λ (xs : List Number). length xs) none) in
           true≢false (sym (ap (λ (n : ℕ). n == 0) zero) ∙ sym c.is_empty.ensures ∙ w.if-is_empty.false)
     ] in
-    by_value_run c.args.options.now c.args.question c.requires.requests c.args.form c.args.program.now file (bytes_of c.args.dump) read c.in-Ok.field-0 c.in-Ok.ensures.coded
+    by_value_run text c.args.options.now c.args.question requests c.args.form c.args.program.now file (bytes_of c.args.dump) read c.in-Ok.field-0 c.in-Ok.ensures.coded
     values c.options.inside.batch batch c.print_form.ensures
 
 pub returns : goal.returns
-returns g c = λ file read.
+returns g c = λ text file requests read.
     let values : HasValues c.args.question.query.numbers.items (bytes_of c.args.dump) = elim c.else-is_empty.branch [
       | else-is_empty-via-then-is_empty+else-is_plain w ↦ λ none ds dump. true≢false (sym (w.is_plain.ensures.1 (ds, dump)) ∙ w.if-is_plain.false)
       | else-is_empty-via-else-is_empty w ↦ λ none ds dump.
@@ -51,5 +51,5 @@ returns g c = λ file read.
           omega (arith, c.args.question.query.numbers.ok.0, ap (λ (xs : List Number). length xs) none) in
           true≢false (sym (ap (λ (n : ℕ). n == 0) zero) ∙ sym c.is_empty.ensures ∙ w.if-is_empty.false)
     ] in
-    refused_run c.args.options.now c.args.question c.requires.requests c.args.form c.args.program.now file (bytes_of c.args.dump) read values (g.O.Output.state c.args.out.now)
+    refused_run text c.args.options.now c.args.question requests c.args.form c.args.program.now file (bytes_of c.args.dump) read values (g.O.Output.state c.args.out.now)
     (g.E.Output.state c.args.err.now) (g.E.Output.state c.report_fault.new.err) c.report_fault.result c.in-Err.fault c.in-Err.ensures.fault c.report_fault.ensures

@@ -1,9 +1,7 @@
-use Rattle.std.proofs.{Common.ap, Common.List, Common.Option, Common.codes, Common.option_map, Common.string_bytes, Common.unwrap_or, Common.ℕ, Common.◌≡◌, Common.Ok, Common.◌∙◌, Common.subst, lemmas.Result.err_from_is_err_and}
+use Rattle.std.proofs.{Common.◌≡◌, Common.Ok, Common.◌∙◌, Common.subst, lemmas.Result.err_from_is_err_and}
 use Rattle.bd_value.specs.{Tree.Doc, View.node_parts, View.pairs}
 use Rattle.bd_cursor_request.specs.Request.{request_view}
 use Rattle.bd_cli_find.specs.Options.{ReportsSearchFault, requested_with}
-use Rattle.bd_cli_args.specs.FindOptions.{FindOptions}
-use Rattle.bd_wide_substitute.specs.Both.{IsRead}
 use Rattle.bd_wide_find.proofs.QuestionLemmas.{parts_are, refused_options}
 use Rattle.bd_wide_find.proofs.question.read_question.Goals as goal
 
@@ -13,9 +11,8 @@ returns-in_err-search-clause-fault c =
     let q = c.in_ok-query.query in
     let same : pairs c.in_ok-copy.copy ≡ pairs q.texts = c.in_ok-copy.ensures ∙ parts_are (pairs q.texts) (node_parts c.parts.result) c.parts.ensures.parts in
     let reported = subst (λ (d : Doc). ReportsSearchFault (requested_with c.args.options.now d) c.in_err-search.field-0.0) same c.in_err-search.ensures.fault in
-    let view : option_map string_bytes c.options.inside.query ≡ c.args.options.now.query = ap (λ (o : FindOptions). o.query) c.options.view_is in
-    let read = subst (λ (o : Option (List ℕ)). IsRead (unwrap_or o (codes "{}")) (pairs q.wholes) (pairs q.texts) q.numbers.items) view c.in_ok-query.ensures.query in
-    rw (p.1, p.2) (refused_options c.args.options.now (pairs q.wholes) (pairs q.texts) q.numbers.items read c.in_err-search.field-0.0 reported)
+    let read = c.in_ok-query.ensures.query in
+    rw (p.1, p.2) (refused_options c.args.text.now c.args.options.now (pairs q.wholes) (pairs q.texts) q.numbers.items read c.in_err-search.field-0.0 reported)
 
 pub returns-clause-search : goal.returns-clause-search
 returns-clause-search c =
