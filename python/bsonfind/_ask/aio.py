@@ -4,20 +4,19 @@ from __future__ import annotations
 
 import os
 from functools import partial
-from typing import Any, AsyncIterator, Awaitable, Callable, ContextManager, TypeVar, overload
+from typing import Any, AsyncIterator, Awaitable, Callable, TypeVar, overload
 
 from .._errors import CancelledError, SessionEndedError
 from .._names import File, name_of_file
 from .._numbers import seconds
 from .._run.processes import Group, check_owner
-from . import steps
-from .decoding import Decode, Dicts, Raw, with_uuids
+from .decoding import Decode, Decoding, Dicts, Raw
 from .distinct import Distinct, Values
 from .loops import Loop, in_thread
 from .plans import Plan
-from .questions import Answering, Questions
-from .requests import Filter, Request, Sort
-from .steps import Hint, use_of
+from .questions import Questions
+from .readings import Reading
+from .requests import Filter, Hint, Request, Sort, use_of
 from .values import Uuids, uuids_of
 
 T = TypeVar("T")
@@ -69,10 +68,6 @@ class AsyncSession:
         """Refuses a call in another process than the one that made the session."""
         check_owner(self._owner)
 
-    def _in_time(self) -> ContextManager[None]:
-        """Has the session end where a question takes longer than its seconds."""
-        return self._group.within(self._timeout)
-
     def _refuse_ended(self) -> None:
         if self._group.is_ended:
             raise SessionEndedError(str(self._group.error))
@@ -83,7 +78,7 @@ class AsyncSession:
         if self._questions is None:
             self._refuse_ended()
             raise SessionEndedError("the session was not opened")
-        with self._in_time():
+        with self._group.within(self._timeout):
             return await self._loop.do(plan_of(self._questions))
 
     # fmt: off
@@ -117,7 +112,7 @@ class AsyncSession:
     ) -> AsyncCursor[Any]:
         """A cursor over an answer, or over what follows a token, for `async for`. It is opened by its first document."""
         request = Request.of(filter, sort, skip, limit, self._uuids)
-        return AsyncCursor(self, Answering(request, use_of(hint), batch_size, after, with_uuids(decode, self._uuids)))
+        return AsyncCursor(self, Reading(request, use_of(hint), batch_size, after, Decoding(decode, self._uuids)))
 
     # fmt: off
     @overload
@@ -147,7 +142,7 @@ class AsyncSession:
     ) -> Any:
         """The first document of an answer, None if it has none."""
         ask: Callable[..., AsyncCursor[Any]] = self.find
-        with self._in_time():
+        with self._group.within(self._timeout):
             async with ask(filter, sort=sort, skip=skip, limit=1, hint=hint, decode=decode) as cursor:
                 async for document in cursor:
                     return document
@@ -156,12 +151,12 @@ class AsyncSession:
     async def count_documents(self, filter: Filter | None = None) -> int:
         """How many documents match."""
         request = Request.of(filter, uuids=self._uuids)
-        return await self._do(lambda it: it.ask(steps.count, request))
+        return await self._do(lambda it: it.count(request))
 
     async def distinct(self, key: str, filter: Filter | None = None, *, decode: Values = "plain") -> list[Any]:
         """The values of a field in the documents that match, each once: of an array each element, and numbers by their values."""
         distinct = Distinct(key, decode, self._uuids)
-        with self._in_time():
+        with self._group.within(self._timeout):
             async for document in self.find(filter, decode="canonical"):
                 distinct.add(document)
         return distinct.values()
@@ -185,7 +180,7 @@ class AsyncSession:
     ) -> dict[str, Any]:
         """How an answer is found: the `plan`, the path of the `index`, and how many `entries`, `documents` and `matches`."""
         request = Request.of(filter, sort, skip, limit, self._uuids)
-        return await self._do(lambda it: it.ask(steps.explain, request, use_of(hint)))
+        return await self._do(lambda it: it.explain(request, use_of(hint)))
 
     def cancel(self) -> None:
         """Ends the session at once: a call that waits for a reply gets a `CancelledError` of this package."""
@@ -210,16 +205,16 @@ class AsyncSession:
 class AsyncCursor(AsyncIterator[T]):
     """The documents of an answer, which are asked for a batch at a time. It keeps what it read as a `Cursor` does."""
 
-    def __init__(self, session: AsyncSession, answering: Answering) -> None:
-        self._session, self._answering = session, answering
+    def __init__(self, session: AsyncSession, reading: Reading[T]) -> None:
+        self._session, self._reading = session, reading
 
     async def __anext__(self) -> T:
         self._session._check()
-        answering = self._answering
-        if not answering.reading.held.documents.left and not answering.is_at_end:
-            await self._session._do(answering.read_on)
-        documents = answering.reading.held.documents
-        if answering.is_closed or not documents.left:
+        reading = self._reading
+        if not reading.held.documents.left and not reading.is_at_end:
+            await self._session._do(reading.read_on)
+        documents = reading.held.documents
+        if reading.is_closed or not documents.left:
             raise StopAsyncIteration
         document: T = documents.give()
         return document
@@ -227,16 +222,16 @@ class AsyncCursor(AsyncIterator[T]):
     @property
     def token(self) -> Awaitable[str | None]:
         """The token that leads on to what follows the documents that were given, which is awaited; None if none was."""
-        return self._session._do(self._answering.token)
+        return self._session._do(self._reading.token)
 
     async def explain(self) -> dict[str, Any]:
         """How the answer is found, as `AsyncSession.explain` says it."""
-        return await self._session._do(self._answering.explain)
+        return await self._session._do(self._reading.explain)
 
     async def close(self) -> None:
         """Closes the cursor: no document follows. Its token stays."""
         self._session._check()
-        self._answering.close()
+        self._reading.close()
 
     async def __aenter__(self) -> AsyncCursor[T]:
         return self
@@ -245,4 +240,4 @@ class AsyncCursor(AsyncIterator[T]):
         await self.close()
 
     def __del__(self) -> None:
-        self._answering.leave()
+        self._reading.leave()

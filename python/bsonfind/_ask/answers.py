@@ -3,14 +3,14 @@
 from __future__ import annotations
 
 import os
+from contextlib import AbstractContextManager
 from typing import Any, Callable, Iterator, TypeVar, overload
 
 from .._errors import ArgumentError, CancelledError, CursorStateError
 from .._names import File, name_of
 from .._numbers import seconds, whole
 from .._run.processes import Group, check_owner
-from . import steps
-from .decoding import Decode, Dicts, Raw, Texts, decoder, is_of_bytes, with_uuids
+from .decoding import Decode, Decoding, Dicts, Raw, Texts
 from .distinct import Distinct, Values
 from .lines import Lines
 from .plans import now
@@ -21,7 +21,7 @@ from .values import Uuids
 T = TypeVar("T")
 
 
-class Answer(Iterator[T]):
+class Answer(Iterator[T], AbstractContextManager["Answer[T]"]):
     """Documents, as the program prints them.
 
     Once all are read, `token` leads on to what follows them, None if no document was given yet; and `end` is whether nothing
@@ -29,24 +29,22 @@ class Answer(Iterator[T]):
     next call gives the documents after it; an answer that was interrupted while it read says so by a `CursorStateError`.
     """
 
-    def __init__(self, lines: Lines, group: Group, decode: Decode[T], timeout: float | None) -> None:
+    def __init__(self, lines: Lines, group: Group, decoding: Decoding, timeout: float | None) -> None:
         self.token: str | None = None
         self.end = False
         self._lines, self._batches = lines, lines.batches()
         self._group, self._timeout = group, seconds(timeout)
-        self._document_of = decoder(decode)
+        self._document_of: Callable[[bytes], T] = decoding.document_of
         self._owner = os.getpid()
-        self._texts = Texts([], self._document_of)
+        self._texts: Texts[T] = Texts([], self._document_of)
         # False from the moment on when the program is asked for lines until they are kept.
         self._is_known = True
 
     def __next__(self) -> T:
-        if os.getpid() != self._owner:
-            check_owner(self._owner)
+        check_owner(self._owner)
         while not self._texts.left:
             self._read_on()
-        document: T = self._texts.give()
-        return document
+        return self._texts.give()
 
     def _read_on(self) -> None:
         """Reads the next lines; ends the iteration if there are none."""
@@ -83,9 +81,6 @@ class Answer(Iterator[T]):
         self._batches.close()
         self._texts = Texts([], self._document_of)
         self._finish()
-
-    def __enter__(self) -> Answer[T]:
-        return self
 
     def __exit__(self, *_: object) -> None:
         self.close()
@@ -137,9 +132,9 @@ def find(
     request, group = Request.of(filter, sort, skip, limit, uuid_representation), Group()
     whole("batch_size", batch_size)
     size = None if page is None else whole("page", page)
-    made = with_uuids(decode, uuid_representation)
-    lines = Lines(name_of(path), request, program, is_bson=is_of_bytes(made), size=size, index=index, after=after, group=group)
-    return Answer(lines, group, made, timeout)
+    decoding = Decoding(decode, uuid_representation)
+    lines = Lines(name_of(path), request, program, is_bson=decoding.is_of_bytes, size=size, index=index, after=after, group=group)
+    return Answer(lines, group, decoding, timeout)
 
 
 # fmt: off
@@ -227,4 +222,4 @@ def explain(
     with group.within(seconds(timeout)), Questions(path, program, group=group) as questions:
         if index is not None:
             now(questions.create_index(index, False))
-        return now(questions.ask(steps.explain, request, "auto"))
+        return now(questions.explain(request, "auto"))

@@ -2,23 +2,58 @@
 
 from __future__ import annotations
 
+import re
 import threading
 from collections import deque
-from typing import Callable, Sequence, TypeVar
+from typing import Any, Callable, NamedTuple, Sequence
 
-from .._errors import CancelledError, SessionEndedError, TimedOutError
+from .._errors import ArgumentError, CancelledError, CommandError, SessionEndedError, TimedOutError
 from .._run.processes import Dump, Group, Run
 from .._run.wide import wide_program
 from .plans import Alone, Plan, Receive, Send, Work, now
-from .steps import Command, Steps, kill
+from .replies import read_reply
+from .requests import Request, Use, text_of, text_of_pairs
 
-T = TypeVar("T")
+LONGEST_COMMAND = 16_777_216
+# What the program says of what it does not read, such as a double over a dump without any; and what doubles and decimal128 begin with.
+_NOT_TAKEN = "not in the profile"
+_DOUBLE = re.compile(rb'[-0-9]|\{"\$number(?:Double|Decimal)"')
+
+
+class Command(NamedTuple):
+    """A line for the program, and how many bytes of the reply are taken at most; a longer one is skipped as None."""
+
+    line: bytes
+    most: int | None = None
+    # Where the text of each field begins in the line.
+    starts: tuple[int, ...] = ()
+
+    @classmethod
+    def of(cls, *fields: tuple[str, str], most: int | None = None) -> Command:
+        """The command of these names and the JSON of their values."""
+        line = text_of_pairs(fields).encode()
+        if len(line) > LONGEST_COMMAND:
+            raise ArgumentError(f"a command has at most {LONGEST_COMMAND} bytes, not {len(line)}")
+        starts, end = [], 0
+        for name, text in fields:
+            starts.append(end + len(f',"{name}":'))
+            end = starts[-1] + len(text)
+        return cls(line, most, tuple(starts))
+
+
+def kill(cursor: int) -> Command:
+    """The command that closes a cursor."""
+    return Command.of(("killCursor", str(cursor)))
+
+
+class NotTaken(CommandError):
+    """A double or a decimal128 in a command, which a session over a dump without any refuses."""
 
 
 class Connection:
     """A run of `serve` over a dump that was read. A command has its reply before the next one is sent.
 
-    Before an answer is given `check` is called, which raises why there is none, such as a dump that was replaced.
+    Before a reply is given `check` is called, which raises why there is none, such as a dump that was replaced.
     """
 
     def __init__(self, dump: Dump, program: str, group: Group, check: Callable[[], None], options: Sequence[str] = ()) -> None:
@@ -37,25 +72,36 @@ class Connection:
             self._end("the dump was not read")
             raise
 
-    def do(self, steps: Steps[T]) -> T:
-        """What steps come to, by calls that wait."""
-        return now(self.ask(steps))
+    def ask(self, command: Command) -> Plan[bytes | None]:
+        """The reply to a command, None if it is longer than the command says."""
+        reply: bytes | None = yield Alone(self._lock, self._exchange(command))
+        self._check()
+        return reply
 
-    def ask(self, steps: Steps[T]) -> Plan[T]:
-        """What steps come to, whose commands are asked one after the other."""
-        self.check()
+    def fields(self, command: Command, *names: str) -> Plan[dict[str, Any]]:
+        """The fields of a reply, these among them. A refused byte is that of the text of a field, as of an option of `find`."""
+        reply = yield from self.ask(command)
+        assert reply is not None
         try:
-            step = next(steps)
-            while True:
-                step = steps.send((yield Alone(self._lock, self._exchange(step)) if isinstance(step, Command) else step))
-        except StopIteration as end:
-            self._check()
-            result: T = end.value
-            return result
+            return read_reply(reply, *names)
+        except CommandError as error:
+            if error.layer == "json" and isinstance(error.place, int):
+                start = max((it for it in command.starts if it <= error.place), default=0)
+                is_double = error.text == _NOT_TAKEN and _DOUBLE.match(command.line, error.place)
+                raise (NotTaken if is_double else CommandError)(error.layer, error.number, error.text, error.place - start) from None
+            raise
 
-    def check(self) -> None:
-        """Refuses a call in another process than the one that opened the connection, such as after a fork."""
-        self._run.check_process()
+    def create_index(self, path: str, sparse: bool) -> Plan[dict[str, Any]]:
+        """Makes an index on a path."""
+        return self.fields(Command.of(("createIndex", text_of(path)), ("sparse", text_of(sparse))))
+
+    def drop_index(self, path: str) -> Plan[dict[str, Any]]:
+        """Drops the index on a path."""
+        return self.fields(Command.of(("dropIndex", text_of(path))))
+
+    def explain(self, request: Request, use: Use) -> Plan[dict[str, Any]]:
+        """How an answer is found."""
+        return self.fields(Command.of(("explain", request.filter), *request.fields(), ("use", text_of(use))), "matches")
 
     def check_open(self) -> None:
         """Raises why the connection ended, where it has."""
@@ -69,12 +115,10 @@ class Connection:
 
     def close(self) -> None:
         """Ends the run."""
-        self.check()
         with self._lock:
             self._end("the session was closed")
 
     def _exchange(self, command: Command) -> Plan[bytes | None]:
-        """The reply to a command, None if it is longer than the command says."""
         while self._left:
             yield from self._reply(kill(self._left.popleft()))
         return (yield from self._reply(command))
@@ -95,18 +139,18 @@ class Connection:
 
     def _bytes_for(self, command: Command) -> Plan[bytes | None]:
         """Sends a command and reads the reply; nothing where the program has ended."""
-        pieces: list[bytes] | None = []
+        pieces: list[bytes] = []
         size = 0
         try:
             yield Send(self._run.stdin.fileno(), command.line + b"\n")
             while piece := (yield Receive(self._run.stdout.fileno())):
                 size += len(piece)
-                if command.most is not None and size > command.most:
-                    pieces = None
-                if pieces is not None:
+                if is_long := command.most is not None and size > command.most:
+                    pieces.clear()
+                else:
                     pieces.append(piece)
                 if piece.endswith(b"\n"):
-                    return None if pieces is None else b"".join(pieces)
+                    return None if is_long else b"".join(pieces)
         except BrokenPipeError:
             pass  # The end of the run says why.
         return b""

@@ -3,10 +3,11 @@
 from __future__ import annotations
 
 import json
+from functools import partial
 from typing import Any, Callable, Generic, Literal, TypeVar, Union
 
 from .._errors import ArgumentError
-from .replies import documents_in, junk
+from .replies import document_at, documents_in, junk
 from .values import Uuids, plain_document, uuids_of
 
 T = TypeVar("T")
@@ -15,33 +16,12 @@ Dicts = Literal["plain", "canonical", "dict", "json_util", "pymongo"]
 # What gives bytes: the line, or the document as it is in the dump.
 Raw = Literal["bytes", "bson"]
 Decode = Union[Callable[[bytes], T], Literal["plain", "canonical", "dict", "json_util", "pymongo", "bytes", "bson"]]
-# The names of canonical Extended JSON. The second one is that of earlier versions, and goes with 1.0.
-_CANONICAL = ("canonical", "dict")
 # What pymongo calls the representations of UUIDs.
 _UUIDS = {"standard": "STANDARD", "pythonLegacy": "PYTHON_LEGACY", "javaLegacy": "JAVA_LEGACY", "csharpLegacy": "CSHARP_LEGACY"}
 
 
-class Bson:
-    """Makes documents of their bytes, as pymongo does."""
-
-    def __init__(self, uuids: Uuids) -> None:
-        try:
-            from bson import binary, codec_options, decode  # type: ignore[import]
-        except ImportError:
-            raise ArgumentError('decode="pymongo" needs pymongo, which this Python has not') from None
-        self._decode, self._options = decode, codec_options.CodecOptions(uuid_representation=getattr(binary, _UUIDS[uuids]))
-
-    def __call__(self, document: bytes) -> Any:
-        return self._decode(document, self._options)
-
-
-def is_of_bytes(decode: Decode[Any]) -> bool:
-    """Whether documents are given, or made, of their bytes in the dump, and not of lines."""
-    return decode == "bson" or isinstance(decode, Bson)
-
-
-def decoder(decode: Decode[Any]) -> Callable[[bytes], Any]:
-    """What makes a document of a line.
+class Decoding:
+    """What makes the documents that a caller asks for.
 
     - `"plain"` gives a `dict` of plain values of Python: `int`, `str`, `bytes`, `datetime` and the like, see `plain_document`.
     - `"canonical"` gives the canonical Extended JSON as a `dict` in the order of the fields. If a name is in one document twice it
@@ -49,43 +29,62 @@ def decoder(decode: Decode[Any]) -> Callable[[bytes], Any]:
     - `"json_util"` gives what `bson.json_util.loads` of pymongo makes of the line.
     - `"bytes"` gives the line as it is, without its newline.
     - `"bson"` gives in place of it the bytes of the document as they are in the dump.
-    - `"pymongo"` gives what pymongo makes of these bytes: its `ObjectId`, `Int64`, `Decimal128`, `Binary` and the like, see `with_uuids`.
+    - `"pymongo"` gives what pymongo makes of these bytes: its `ObjectId`, `Int64`, `Decimal128`, `Binary` and the like.
     - A function is called with the line.
     """
-    if callable(decode):
-        return decode
-    if decode in _CANONICAL:
-        return _parsed
-    if decode == "plain":
-        return lambda line: plain_document(_parsed(line))
-    if decode == "json_util":
+
+    def __init__(self, decode: Decode[Any], uuids: Uuids = "standard") -> None:
+        uuids_of(uuids)
+        # Whether documents are given, or made, of their bytes in the dump, and not of lines.
+        self.is_of_bytes = decode in ("bson", "pymongo")
+        # What makes a document of its JSON, where it is a dictionary by this package.
+        self._finish: Callable[[dict[str, Any]], Any] | None = None
+        # What makes a document of its line or its bytes.
+        self.document_of: Callable[[bytes], Any] = self._of_json
+        if callable(decode):
+            self.document_of = decode
+        elif decode == "plain":
+            self._finish = partial(plain_document, uuids=uuids)
+        elif decode in ("canonical", "dict"):
+            self._finish = _as_it_is
+        elif decode in ("pymongo", "json_util"):
+            self.document_of = _by_pymongo(decode, uuids)
+        elif decode in ("bytes", "bson"):
+            self.document_of = bytes
+        else:
+            raise ArgumentError(f'decode is "plain", "canonical", "pymongo", "json_util", "bytes", "bson" or a function, not {decode!r}')
+
+    def _of_json(self, line: bytes) -> Any:
+        """The document of a line; of what is none the program is no bsonfind."""
+        assert self._finish
         try:
-            from bson import json_util
-        except ImportError:
-            raise ArgumentError('decode="json_util" needs pymongo, which this Python has not') from None
-        loads: Callable[[bytes], Any] = json_util.loads
-        return loads
-    if decode in ("bytes", "bson"):
-        return bytes
-    raise ArgumentError(f'decode is "plain", "canonical", "pymongo", "json_util", "bytes", "bson" or a function, not {decode!r}')
+            document = json.loads(line)
+        except ValueError:
+            document = None
+        if not isinstance(document, dict):
+            raise junk(line)
+        return self._finish(document)
+
+    def batch(self, text: bytes) -> Texts[Any] | Parsed:
+        """The documents of a batch, of its text."""
+        return Parsed(text.decode(), self._finish) if self._finish else Texts(documents_in(text), self.document_of)
 
 
-def with_uuids(decode: Decode[Any], uuids: Uuids) -> Decode[Any]:
-    """What decodes documents in which UUIDs are of a representation."""
-    if uuids_of(uuids) != "standard" and decode == "plain":
-        return lambda line: plain_document(_parsed(line), uuids)
-    return Bson(uuids) if decode == "pymongo" else decode
-
-
-def _parsed(line: bytes) -> dict[str, Any]:
-    """The document of a line; of what is none the program is no bsonfind."""
-    try:
-        document = json.loads(line)
-    except ValueError:
-        document = None
-    if not isinstance(document, dict):
-        raise junk(line)
+def _as_it_is(document: dict[str, Any]) -> dict[str, Any]:
     return document
+
+
+def _by_pymongo(decode: str, uuids: Uuids) -> Callable[[bytes], Any]:
+    try:
+        if decode == "json_util":
+            from bson.json_util import loads  # type: ignore[import]
+
+            return lambda line: loads(line)
+        from bson import binary, codec_options, decode as read  # type: ignore[import]
+    except ImportError:
+        raise ArgumentError(f'decode="{decode}" needs pymongo, which this Python has not') from None
+    options = codec_options.CodecOptions(uuid_representation=getattr(binary, _UUIDS[uuids]))
+    return lambda document: read(document, options)
 
 
 class Texts(Generic[T]):
@@ -100,11 +99,6 @@ class Texts(Generic[T]):
     def left(self) -> int:
         """How many documents were not given yet."""
         return len(self._texts) - self.given
-
-    @property
-    def texts(self) -> list[bytes]:
-        """All texts, also of documents that were given."""
-        return self._texts
 
     def give(self) -> T:
         """The next document."""
@@ -141,27 +135,7 @@ class Parsed:
     def give(self) -> Any:
         """The next document."""
         at, given = self._at
-        try:
-            document, end = _scan(self._text, at)
-        except ValueError:
-            raise junk(self._text[at:]) from None
+        document, end = document_at(self._text, at)
         document = self._finish(document)
         self._at = end + 1, given + 1
         return document
-
-
-_scan = json.JSONDecoder().raw_decode
-
-
-def batches_by(decode: Decode[T]) -> Callable[[bytes, int], Texts[T] | Parsed]:
-    """What makes the documents of a batch of its text and their number, 0 where that is not known."""
-    if decode in _CANONICAL:
-        return lambda text, _: Parsed(text.decode(), _as_it_is)
-    if decode == "plain":
-        return lambda text, _: Parsed(text.decode(), plain_document)
-    document_of = decoder(decode)
-    return lambda text, size: Texts(documents_in(text, size), document_of)
-
-
-def _as_it_is(document: dict[str, Any]) -> dict[str, Any]:
-    return document

@@ -118,9 +118,10 @@ class Lines:
     def _by_session(self, dump: Asked, files: ExitStack) -> Batches:
         """The same over a file, by its descriptor: what can be read only once is written to one without a name."""
         # A session is imported where one is needed: that takes longer than the start of Python.
+        from .decoding import Decoding
         from .plans import now
-        from .questions import Answering, Questions
-        from .steps import FIRST_BATCH
+        from .questions import Questions
+        from .readings import FIRST_BATCH, Reading
 
         original = Original.of(dump) if isinstance(dump, Source) else Original.of_pieces(dump.pieces or ())
         files.callback(original.close)
@@ -128,14 +129,15 @@ class Lines:
         with Questions(f"/dev/fd/{original.rewound().fileno()}", self._program, group=self._group) as questions:
             if self._index is not None:
                 now(questions.create_index(self._index, False))
-            answering = Answering(self._request, "auto", remaining or FIRST_BATCH, self._after, "bson" if self._is_bson else "bytes")
-            connection, reading = now(answering.open(questions)), answering.reading
+            decoding = Decoding("bson" if self._is_bson else "bytes")
+            reading: Reading[bytes] = Reading(self._request, "auto", remaining or FIRST_BATCH, self._after, decoding)
+            now(reading.open(questions))
             while not reading.is_at_end and remaining != 0:
-                now(connection.ask(reading.read_on(questions.documents, remaining)))
+                now(reading.read_on(questions, remaining))
                 some = [reading.held.documents.give() for _ in range(reading.held.documents.left)]
                 remaining = None if remaining is None else remaining - len(some)
                 yield some
-            self.end, self.token = reading.is_at_end, now(answering.token(questions))
+            self.end, self.token = reading.is_at_end, now(reading.token(questions))
 
 
 def documents_of(pipe: BufferedReader) -> Batches:

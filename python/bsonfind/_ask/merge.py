@@ -13,6 +13,7 @@ What is found goes from the parts to the whole as the documents are in the dump,
 from __future__ import annotations
 
 from concurrent.futures import ThreadPoolExecutor
+from contextlib import AbstractContextManager
 from functools import partial
 from typing import Any, Callable, Iterable, Iterator, NamedTuple, Sequence, TypeVar, overload
 
@@ -22,7 +23,7 @@ from .._errors import ArgumentError, BsonfindError, DumpError, ProgramError
 from .._faults import Fault
 from .._numbers import seconds, whole
 from .._run.processes import Dump, Group
-from .decoding import Decode, Dicts, Raw, Texts, decoder, is_of_bytes, with_uuids
+from .decoding import Decode, Decoding, Dicts, Raw, Texts
 from .lines import Lines, try_request
 from .requests import Filter, Request, Sort
 from .values import Uuids
@@ -77,15 +78,14 @@ def find_parts(
     Each part is asked for its own answer, what they gave is packed and joined, and asked again. A part that fails is a
     `PartError`, and at once ends the others that run in this process; so does a `timeout`, in seconds, for all of it.
     """
-    made = with_uuids(decode, uuid_representation)
-    document_of = decoder(made)
+    decoding = Decoding(decode, uuid_representation)
     request = Request.of(filter, sort, skip, limit, uuid_representation)
     with _Asking(program, workers, map, timeout) as asking:
         asking.try_request(request)
         packed = asking.each(parts, partial(_packed_answer, request.of_part(), program))
-        found = Lines(Dump(packed), request, program, is_bson=is_of_bytes(made), group=asking.group)
-        texts = Texts(_joined(found), document_of)
-    return [texts.give() for _ in texts.texts]
+        found = Lines(Dump(packed), request, program, is_bson=decoding.is_of_bytes, group=asking.group)
+        texts = Texts(_joined(found), decoding.document_of)
+    return [texts.give() for _ in range(texts.left)]
 
 
 def count_parts(
@@ -120,7 +120,7 @@ def check_parts(
     return Check(sum(it.documents for it in checks), [fault for it in checks for fault in it.faults])
 
 
-class _Asking:
+class _Asking(AbstractContextManager["_Asking"]):
     """The asking of parts: how they are run, and what ends all of them."""
 
     def __init__(self, program: str, workers: int, map: Map | None, timeout: float | None) -> None:
@@ -167,9 +167,6 @@ class _Asking:
                 except BaseException:
                     self.group.end()
                     raise
-
-    def __enter__(self) -> _Asking:
-        return self
 
     def __exit__(self, *_: object) -> None:
         self.group.rest()

@@ -4,6 +4,7 @@ from __future__ import annotations
 
 import os
 import threading
+from contextlib import AbstractContextManager
 from typing import Any, Callable, ContextManager, Sequence, TypeVar
 
 from .._dumps.originals import Original, Spool
@@ -12,19 +13,16 @@ from .._errors import CancelledError, SessionEndedError
 from .._names import File, name_of_file
 from .._numbers import seconds
 from .._run.processes import Dump, Group, check_owner
-from . import steps
-from .connections import Connection
-from .decoding import Decode
-from .plans import Plan, Work
-from .requests import Request
-from .steps import NotTaken, Reading, Steps, Use
+from .connections import Connection, NotTaken
+from .plans import Plan, Work, now
+from .requests import Request, Use
 
 T = TypeVar("T")
 # The option of `serve` for sessions by value, which take doubles and decimal128 over a dump that has none.
 _BY_VALUE = "--byValue"
 
 
-class Questions:
+class Questions(AbstractContextManager["Questions"]):
     """The connections over a dump: one, and a second one once a command needs it."""
 
     def __init__(self, path: File, program: str, timeout: float | None = None, group: Group | None = None) -> None:
@@ -77,22 +75,16 @@ class Questions:
                 self._original = self._original or Original.of(self._source)
         return self._original.documents(numbers, most)
 
-    def ask(self, make: Callable[..., Steps[T]], request: Request, *more: Any) -> Plan[T]:
-        """What steps of a request come to."""
-        return (yield from self.asked(lambda: make(request, *more)))[1]
-
-    def asked(self, make: Callable[[], Steps[T]]) -> Plan[tuple[Connection, T]]:
-        """The connection that takes a command, and what its steps come to. Where one refuses a double the other one is asked."""
+    def ask(self, make: Callable[[Connection], Plan[T]]) -> Plan[T]:
+        """What a plan comes to by the connection that takes its commands. Where one refuses a double the other one is asked."""
         self.check()
-        first = self._connections[0]
         try:
-            return first, (yield from first.ask(make()))
+            return (yield from make(self._connections[0]))
         except NotTaken:
             pass  # The other one says what comes of it.
         if len(self._connections) == 1:
             yield Work(self._open_second)
-        second = self._connections[1]
-        return second, (yield from second.ask(make()))
+        return (yield from make(self._connections[1]))
 
     def _open_second(self) -> None:
         """Opens the connection that compares all numbers by value, with the indexes of the first one."""
@@ -104,10 +96,10 @@ class Questions:
             made: list[tuple[str, bool]] = []
             while not self._is_second(second, made):
                 for path, _ in made:
-                    second.do(steps.drop_index(path))
+                    now(second.drop_index(path))
                 made = list(self._indexes)
                 for index in made:
-                    second.do(steps.create_index(*index))
+                    now(second.create_index(*index))
 
     def _is_second(self, connection: Connection, indexes: list[tuple[str, bool]]) -> bool:
         """Adds a connection, if it has all indexes."""
@@ -120,24 +112,32 @@ class Questions:
     def create_index(self, path: str, sparse: bool) -> Plan[dict[str, Any]]:
         """Makes an index on a path."""
         self.check()
-        made = yield from self._connections[0].ask(steps.create_index(path, sparse))
+        made = yield from self._connections[0].create_index(path, sparse)
         with self._lock:
             self._indexes.append((path, sparse))
             others = self._connections[1:]
         for other in others:
-            yield from other.ask(steps.create_index(path, sparse))
-        result: dict[str, Any] = made
-        return result
+            yield from other.create_index(path, sparse)
+        return made
 
     def drop_index(self, path: str) -> Plan[None]:
         """Drops the index on a path."""
         self.check()
-        yield from self._connections[0].ask(steps.drop_index(path))
+        yield from self._connections[0].drop_index(path)
         with self._lock:
             self._indexes = [it for it in self._indexes if it[0] != path]
             others = self._connections[1:]
         for other in others:
-            yield from other.ask(steps.drop_index(path))
+            yield from other.drop_index(path)
+
+    def explain(self, request: Request, use: Use) -> Plan[dict[str, Any]]:
+        """How an answer is found."""
+        return self.ask(lambda connection: connection.explain(request, use))
+
+    def count(self, request: Request) -> Plan[int]:
+        """How many documents match."""
+        matches: int = (yield from self.explain(request, "auto"))["matches"]
+        return matches
 
     def cancel(self) -> None:
         """Ends all at once. Any thread may call it."""
@@ -155,59 +155,5 @@ class Questions:
             self._original.close()
         self._source.close()
 
-    def __enter__(self) -> Questions:
-        return self
-
     def __exit__(self, *_: object) -> None:
         self.close()
-
-
-class Answering:
-    """The answer to one request: by what it is asked, and how far it was read."""
-
-    def __init__(self, request: Request, use: Use, batch_size: int, after: str | None, decode: Decode[Any]) -> None:
-        self.reading: Reading[Any] = Reading(request, use, batch_size, after, decode)
-        # Known once it is opened.
-        self._connection: Connection | None = None
-        self.is_closed = False
-
-    @property
-    def is_at_end(self) -> bool:
-        """Whether no document follows those that were read."""
-        return self.is_closed or self.reading.is_at_end
-
-    def open(self, questions: Questions) -> Plan[Connection]:
-        """Opens a cursor of the program, if that was not done."""
-        questions.check()
-        if self._connection is None:
-            self._connection, _ = yield from questions.asked(self.reading.start)
-        connection: Connection = self._connection
-        return connection
-
-    def read_on(self, questions: Questions) -> Plan[None]:
-        """Reads until there are documents that were not given, or none follows."""
-        connection = yield from self.open(questions)
-        while not self.reading.held.documents.left and not self.is_at_end:
-            connection.check_open()
-            yield from connection.ask(self.reading.read_on(questions.documents))
-
-    def token(self, questions: Questions) -> Plan[str | None]:
-        """The token that leads on to what follows the documents that were given; None if none was."""
-        connection = yield from self.open(questions)
-        return (yield from connection.ask(self.reading.token()))
-
-    def explain(self, questions: Questions) -> Plan[dict[str, Any]]:
-        """How the answer is found."""
-        connection = yield from self.open(questions)
-        return (yield from connection.ask(self.reading.explain()))
-
-    def close(self) -> None:
-        """Gives no more documents. Those that were given stay so, and the token with them."""
-        self.is_closed = True
-        self.leave()
-
-    def leave(self) -> None:
-        """Has the cursor of the program closed before the next command."""
-        number, self.reading.number = self.reading.number, None
-        if number is not None and self._connection:
-            self._connection.leave(number)

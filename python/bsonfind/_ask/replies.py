@@ -3,17 +3,13 @@
 from __future__ import annotations
 
 import json
-import re
 from typing import Any, NamedTuple
 
 from .._errors import CommandError, ProgramError
 
 _DOCUMENTS, _PLACES = b'{"ok":true,"documents":[', b'{"ok":true,"places":['
 _AFTER_DOCUMENTS = b'],"end":'
-# Every byte but a brace and a quotation mark.
-_REST = bytes(set(range(256)) - set(b'{}"'))
-# The beginning of a document, up to the colon after its first name.
-_NAME = re.compile(rb'\{"[^",:\]{}\\][^"{}\\]*":')
+_scan = json.JSONDecoder().raw_decode
 
 
 class Batch(NamedTuple):
@@ -68,62 +64,22 @@ def read_batch(line: bytes) -> Batch:
     return Batch(line[len(_DOCUMENTS) : end], rest["end"], rest["token"])
 
 
-def documents_in(text: bytes, size: int = 0) -> list[bytes]:
-    """The texts of these documents; it is faster where their number is given."""
-    return _cut_by_name(text, size) or _cut_by_braces(text)
+def documents_in(text: bytes) -> list[bytes]:
+    """The texts of documents that have commas between them."""
+    whole, at, found = text.decode(), 0, []
+    while at < len(whole):
+        _, end = document_at(whole, at)
+        found.append(whole[at:end].encode())
+        at = end + 1
+    return found
 
 
-def _cut_by_name(text: bytes, size: int) -> list[bytes]:
-    """This many documents, where all of them begin with the same name; else nothing.
-
-    Where a quotation mark follows a brace, and no comma, colon or bracket follows it, a text begins, and the brace is none of a
-    text. So `},{"NAME":` is between two documents of the whole or of an array, and of the whole where braces are in
-    balance.
-    """
-    head = text[: text.find(b'":') + 2]
-    if not size or not _NAME.fullmatch(head):
-        return []
-    pieces = text[len(head) : -1].split(b"}," + head)
-    if len(pieces) != size:
-        return []
-    bare = map(_without_braces_in_texts, pieces) if _has_braces_in_texts(text) else pieces
-    if any([it.count(b"{") - it.count(b"}") for it in bare]):
-        return []
-    return [head + it + b"}" for it in pieces]
-
-
-def _cut_by_braces(text: bytes) -> list[bytes]:
-    """All documents. The text is split at `},{` where as many braces are closed as were opened."""
-    if not text:
-        return []
-    documents, start, end, is_open = [], 0, 0, 0
-    for piece in _without_braces_in_texts(text).split(b"},{"):
-        is_open += piece.count(b"{") - piece.count(b"}")
-        end += len(piece) + 1
-        if is_open <= 1:
-            documents.append(text[start:end])
-            start, is_open = end + 1, 1
-        end += 2
-    return documents
-
-
-def _without_escapes(text: bytes) -> bytes:
-    """As many bytes, without a backslash before a quotation mark."""
-    return text.replace(b"\\\\", b"__").replace(b'\\"', b"__") if b"\\" in text else text
-
-
-def _has_braces_in_texts(text: bytes) -> bool:
-    """Whether a brace is within quotation marks. If none is, these are in pairs once all but braces is taken out."""
-    return b'"' in _without_escapes(text).translate(None, _REST).replace(b'""', b"")
-
-
-def _without_braces_in_texts(text: bytes) -> bytes:
-    """As many bytes, with spaces within quotation marks where a brace is there."""
-    if not _has_braces_in_texts(text):
-        return text
-    parts = _without_escapes(text).split(b'"')
-    parts[1::2] = [b" " * len(it) for it in parts[1::2]]
-    return b'"'.join(parts)
+def document_at(text: str, at: int) -> tuple[Any, int]:
+    """The document that begins there, and where it ends."""
+    try:
+        return _scan(text, at)
+    except ValueError:
+        raise junk(text[at:]) from None
 
 
 def _number(value: dict[str, Any]) -> Any:

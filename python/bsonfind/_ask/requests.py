@@ -13,6 +13,10 @@ from .values import Uuids, extended, uuids_of
 
 Filter = Mapping[str, Any]
 Sort = Union[Mapping[str, int], Sequence["tuple[str, int]"]]
+# How documents are to be found: by what the program chooses, by each document, or by the index on a path.
+Use = Union[str, Mapping[str, str]]
+# The same as pymongo has it: the path of an index, by itself or with a direction; or {"$natural": 1} to read each document.
+Hint = Union[str, Mapping[str, Any], Sequence["tuple[str, Any]"]]
 
 # Linux takes arguments of fewer than 131,072 bytes.
 LONGEST_ARGUMENT = 131_071
@@ -20,41 +24,30 @@ LONGEST_ARGUMENT = 131_071
 _LONGEST_BESIDE = 1000
 
 
-def _named(value: Any) -> Any:
-    """A value in which each float that JSON has not, such as infinity, is the double of that name."""
+def _written(value: Any) -> Any:
+    """A value in which each float that JSON has not, such as infinity, is the double of that name.
+
+    What JSON would make a text of is refused: a name that is none, and the `Code` of pymongo.
+    """
+    if isinstance(value, Mapping):
+        for name in value:
+            if not isinstance(name, str):
+                raise TypeError(f"the name of a field is a text, not {name!r}")
+        return {name: _written(it) for name, it in value.items()}
+    if isinstance(value, (list, tuple)):
+        return [_written(it) for it in value]
     if isinstance(value, float) and not math.isfinite(value):
         return {"$numberDouble": "NaN" if math.isnan(value) else "Infinity" if value > 0 else "-Infinity"}
-    if isinstance(value, Mapping):
-        return {name: _named(it) for name, it in value.items()}
-    return [_named(it) for it in value] if isinstance(value, (list, tuple)) else value
-
-
-def _is_json(value: Any) -> bool:
-    """Whether JSON has each float of a value. What it would make a text of is refused: a name that is none, and the `Code` of pymongo."""
-    waiting, is_json = [value], True
-    while waiting:
-        it = waiting.pop()
-        if isinstance(it, Mapping):
-            for name in it:
-                if not isinstance(name, str):
-                    raise TypeError(f"the name of a field is a text, not {name!r}")
-            waiting.extend(it.values())
-        elif isinstance(it, (list, tuple)):
-            waiting.extend(it)
-        elif isinstance(it, float):
-            is_json = is_json and math.isfinite(it)
-        elif isinstance(it, str) and hasattr(it, "scope"):
-            raise TypeError(f'code is written as Extended JSON, {{"$code": {json.dumps(it)}}}')
-    return is_json
+    if isinstance(value, str) and hasattr(value, "scope"):
+        raise TypeError(f'code is written as Extended JSON, {{"$code": {json.dumps(value)}}}')
+    return value
 
 
 def text_of(value: Any, uuids: Uuids = "standard") -> str:
     """The JSON of a value. An `ObjectId`, a date, bytes, a UUID, and by pymongo its own types, are written in canonical form, and so
     is a float that is no number of JSON."""
-    dumps = partial(json.dumps, separators=(",", ":"), default=partial(extended, uuids=uuids))
     try:
-        text = dumps(value)
-        return text if _is_json(value) else dumps(_named(value))
+        return json.dumps(_written(value), separators=(",", ":"), default=partial(extended, uuids=uuids))
     except (TypeError, ValueError, OverflowError, RecursionError) as error:
         raise ArgumentError(str(error)) from None
 
@@ -72,6 +65,23 @@ def _pairs_of(sort: Sort | None) -> list[tuple[str, int]]:
     except (TypeError, ValueError):
         pass  # They are no pairs.
     raise ArgumentError(f'sort is [("age", -1), ..] or {{"age": -1, ..}}, not {sort!r}')
+
+
+def use_of(hint: Hint | None) -> Use:
+    """What `hint` says, as the program takes it."""
+    if hint is None:
+        return "auto"
+    if isinstance(hint, str):
+        return {"index": hint}
+    try:
+        ((path, way),) = hint.items() if isinstance(hint, Mapping) else hint
+    except (TypeError, ValueError):
+        raise ArgumentError(f'hint is a path, [(PATH, 1)] or {{"$natural": 1}}, not {hint!r}: an index is on one path') from None
+    if path != "$natural":
+        return {"index": path}
+    if way != 1:
+        raise ArgumentError("documents are read in the order of the dump, not backwards")
+    return "scan"
 
 
 class Request(NamedTuple):

@@ -2,24 +2,24 @@
 
 from __future__ import annotations
 
+from contextlib import AbstractContextManager
 from os import getpid
 from typing import Any, Callable, Iterator, TypeVar, overload
 
 from .._names import File
-from . import steps
-from .decoding import Decode, Dicts, Raw, with_uuids
+from .decoding import Decode, Decoding, Dicts, Raw
 from .distinct import Distinct, Values
 from .plans import Plan, now
-from .questions import Answering, Questions
-from .requests import Filter, Request, Sort
-from .steps import Hint, use_of
+from .questions import Questions
+from .readings import Reading
+from .requests import Filter, Hint, Request, Sort, use_of
 from .values import Uuids, uuids_of
 
 T = TypeVar("T")
 Result = TypeVar("Result")
 
 
-class Session:
+class Session(AbstractContextManager["Session"]):
     """A dump with its indexes and cursors, kept by a run of the program to the end of the session.
 
     Threads may share a session, and a cursor belongs to one thread at a time. Another process, such as one by a fork, opens its
@@ -76,7 +76,7 @@ class Session:
         of an index, [(PATH, 1)], or {"$natural": 1} for a scan. Without it the program chooses.
         """
         request = Request.of(filter, sort, skip, limit, self._uuids)
-        return Cursor(self._questions, Answering(request, use_of(hint), batch_size, after, with_uuids(decode, self._uuids)))
+        return Cursor(self._questions, Reading(request, use_of(hint), batch_size, after, Decoding(decode, self._uuids)))
 
     def _do(self, plan: Plan[T]) -> T:
         with self._questions.in_time():
@@ -115,7 +115,7 @@ class Session:
 
     def count_documents(self, filter: Filter | None = None) -> int:
         """How many documents match."""
-        return self._do(self._questions.ask(steps.count, Request.of(filter, uuids=self._uuids)))
+        return self._do(self._questions.count(Request.of(filter, uuids=self._uuids)))
 
     def distinct(self, key: str, filter: Filter | None = None, *, decode: Values = "plain") -> list[Any]:
         """The values of a field in the documents that match, each once: of an array each element, and numbers by their values."""
@@ -144,7 +144,7 @@ class Session:
     ) -> dict[str, Any]:
         """How an answer is found: the `plan`, the path of the `index`, and how many `entries`, `documents` and `matches`."""
         request = Request.of(filter, sort, skip, limit, self._uuids)
-        return self._do(self._questions.ask(steps.explain, request, use_of(hint)))
+        return self._do(self._questions.explain(request, use_of(hint)))
 
     def cancel(self) -> None:
         """Ends the session at once, from any thread: a call that waits for a reply gets a `CancelledError`."""
@@ -154,40 +154,37 @@ class Session:
         """Ends the session."""
         self._questions.close()
 
-    def __enter__(self) -> Session:
-        return self
-
     def __exit__(self, *_: object) -> None:
         self.close()
 
 
-class Cursor(Iterator[T]):
+class Cursor(Iterator[T], AbstractContextManager["Cursor[T]"]):
     """The documents of an answer, which are asked for a batch at a time.
 
     A batch that was read is kept as it came. So where a document cannot be decoded, or the caller is interrupted, the next call
     gives the documents after it; a cursor that was interrupted while it read says so by a `CursorStateError`.
     """
 
-    def __init__(self, questions: Questions, answering: Answering) -> None:
-        self._questions, self._answering = questions, answering
+    def __init__(self, questions: Questions, reading: Reading[T]) -> None:
+        self._questions, self._reading = questions, reading
         self._owner = getpid()
-        self._do(answering.open(questions))
+        self._do(reading.open)
 
     def __next__(self) -> T:
         if getpid() != self._owner:
             self._questions.check()
-        answering = self._answering
-        if not answering.reading.held.documents.left and not answering.is_at_end:
-            self._do(answering.read_on(self._questions))
-        documents = answering.reading.held.documents
-        if answering.is_closed or not documents.left:
+        reading = self._reading
+        if not reading.held.documents.left and not reading.is_at_end:
+            self._do(reading.read_on)
+        documents = reading.held.documents
+        if reading.is_closed or not documents.left:
             raise StopIteration
         document: T = documents.give()
         return document
 
-    def _do(self, plan: Plan[Result]) -> Result:
+    def _do(self, plan_of: Callable[[Questions], Plan[Result]]) -> Result:
         with self._questions.in_time():
-            return now(plan)
+            return now(plan_of(self._questions))
 
     @property
     def token(self) -> str | None:
@@ -195,22 +192,19 @@ class Cursor(Iterator[T]):
 
         Within a batch the program is asked for it, by a cursor that gives the same documents again.
         """
-        return self._do(self._answering.token(self._questions))
+        return self._do(self._reading.token)
 
     def explain(self) -> dict[str, Any]:
         """How the answer is found, as `Session.explain` says it."""
-        return self._do(self._answering.explain(self._questions))
+        return self._do(self._reading.explain)
 
     def close(self) -> None:
         """Closes the cursor: no document follows. Its token stays."""
         self._questions.check()
-        self._answering.close()
-
-    def __enter__(self) -> Cursor[T]:
-        return self
+        self._reading.close()
 
     def __exit__(self, *_: object) -> None:
         self.close()
 
     def __del__(self) -> None:
-        self._answering.leave()
+        self._reading.leave()

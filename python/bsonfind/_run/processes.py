@@ -198,10 +198,6 @@ class Run:
         assert isinstance(self.process.stdout, io.BufferedReader)
         return self.process.stdout
 
-    def check_process(self) -> None:
-        """Refuses a call in another process than the one that started the run."""
-        check_owner(self._owner)
-
     def wait(self) -> int:
         """The status, once the run has ended, and 0 where another part of this process took it.
 
