@@ -4,7 +4,7 @@ from __future__ import annotations
 
 import os
 from concurrent.futures import ThreadPoolExecutor, as_completed
-from dataclasses import replace
+from dataclasses import dataclass, field, replace
 from typing import Callable, Iterable
 
 from .._dumps.archive import Archive, Listed
@@ -103,20 +103,16 @@ def _check_all(dumps: list[Dump], checker: _Checker, jobs: int) -> list[Report]:
     return [report for dump in dumps for report in reports[id(dump)]]
 
 
+@dataclass
 class _Checker:
     """The check of one file after the other; threads share it."""
 
-    def __init__(
-        self,
-        max_faults: int,
-        program: str,
-        take: Callable[[Report], None],
-        take_list: Callable[[str, list[Listed]], None],
-        progress: Watch,
-    ) -> None:
-        self.group = Group()
-        self._max_faults, self._program = max_faults, program
-        self._take, self._take_list, self._progress = take, take_list, progress
+    _max_faults: int
+    _program: str
+    _take: Callable[[Report], None]
+    _take_list: Callable[[str, list[Listed]], None]
+    _progress: Watch
+    group: Group = field(default_factory=Group)
 
     def check(self, names: list[Dump]) -> dict[int, list[Report]]:
         """Checks a file, or each collection of an archive; the reports are those of each of its names."""
@@ -152,7 +148,7 @@ class _Checker:
         if dump.is_below and not dump.error:
             report.place = os.path.abspath(dump.name) if is_archive else place_of(dump.name)
         if not (dump.error or is_archive):
-            report.namespace, report.metadata = namespace_of(dump.name), fault_of_metadata(dump.name, dump.is_below)
+            report.namespace, report.metadata = str(namespace_of(dump.name)), fault_of_metadata(dump.name, dump.is_below)
         self._take(report)
 
     def _note(self, report: Report, error: BsonfindError | OSError) -> None:
@@ -170,12 +166,8 @@ class _Checker:
         def report_of(namespace: Namespace) -> Report:
             if namespace not in reports:
                 name = name_in(source.name, namespace)
-                reports[namespace] = Report(name, namespace=namespace_of(name))
+                reports[namespace] = Report(name, namespace=str(namespace_of(name)))
             return reports[namespace]
-
-        def note_damage(namespace: Namespace, error: str) -> None:
-            report = report_of(namespace)
-            report.error, report.is_fault = error, True
 
         def check(namespace: Namespace, documents: Source) -> None:
             report = report_of(namespace)
@@ -186,15 +178,13 @@ class _Checker:
 
         others: list[Report] = []
         try:
-            for end in split(archive, check):
-                if end.error:
-                    note_damage(end.namespace, end.error)
+            for end in split(archive, check, self.group):
+                if end and end.error:
+                    report = report_of(end.namespace)
+                    report.error, report.is_fault = end.error, True
         except (BsonfindError, OSError) as error:
             others = [Report(source.name)]
             self._note(others[0], error)
-        # After a refusal that is no fault of the archive, ends were not looked for.
-        for namespace in archive.unended() if not others or others[0].is_fault else ():
-            note_damage(namespace, "no end")
         for it in listed:
             if fault := fault_of_listed(it):
                 report_of(it.buckets if it.buckets in reports else it.namespace).metadata = fault

@@ -16,7 +16,7 @@ from .._dumps.archive_frames import Namespace
 from .._dumps.files import file_of, is_whole_archive, member_of
 from .._errors import FileError
 from .._names import File, name_of
-from .metadata import OPLOG, is_at_top, is_oplog, kind_of, read_metadata, read_metadata_file
+from .metadata import OPLOG, is_at_top, is_oplog, kind_of, read_metadata, read_metadata_file, stem_of_file
 
 _ENDING = re.compile(r"\.bson(\.gz)?$")
 _METADATA = re.compile(r"\.metadata\.json(\.gz)?$")
@@ -94,53 +94,35 @@ def dumps_below(directory: str) -> Iterator[Dump]:
 
     A directory without any is an error, such as where a disk is missing; that of a database may have views alone.
     """
-    # The directories that are open, from the first to the innermost: their names, what was not looked at yet, and what was found.
-    open_ones = [_Directory(directory)]
-    while open_ones:
-        inner = open_ones[-1]
-        for found in inner.rest:
-            if isinstance(found, str):
-                open_ones.append(_Directory(found))
-                break
-            inner.is_empty = False
+    waiting: list[str | Dump] = [directory]
+    while waiting:
+        found = waiting.pop()
+        if isinstance(found, Dump):
             yield found
         else:
-            open_ones.pop()
-            if inner.is_empty:
-                yield Dump(inner.name, error="no dump is below this directory")
-            if open_ones:
-                open_ones[-1].is_empty = False
+            waiting += reversed(_found_in(found))
 
 
-class _Directory:
-    """A directory that is looked at: the names of directories in it, and the dumps in it or what is wrong."""
-
-    def __init__(self, name: str) -> None:
-        self.name, self.is_empty = name, False
-        self.rest: Iterator[str | Dump]
-        try:
-            with os.scandir(name) as listed:
-                entries = sorted(listed, key=lambda entry: entry.name)
-        except OSError as error:
-            self.rest = iter([Dump(name, error=f"cannot read the directory: {error.strerror}")])
-            return
-        self.is_empty = not any(_METADATA.search(entry.name) for entry in entries)
-        self.rest = _found_among(entries, name)
-
-
-def _found_among(entries: list[os.DirEntry[str]], directory: str) -> Iterator[str | Dump]:
-    """The dumps and archives among the entries of a directory, and the names of directories in it."""
+def _found_in(directory: str) -> list[str | Dump]:
+    """The dumps and archives in a directory, or what is wrong there, and the names of directories in it."""
+    try:
+        with os.scandir(directory) as listed:
+            entries = sorted(listed, key=lambda entry: entry.name)
+    except OSError as error:
+        return [Dump(directory, error=f"cannot read the directory: {error.strerror}")]
     stems = {it.sub("", entry.name) for entry in entries for it in (_ENDING, _HALF) if it.search(entry.name)}
+    found: list[str | Dump] = []
     for entry in entries:
         try:
-            if entry.is_dir(follow_symlinks=False):
-                yield entry.path
-            else:
-                found = _file_among(entry, directory, stems)
-                if found:
-                    yield found
+            is_directory = entry.is_dir(follow_symlinks=False)
+            it = entry.path if is_directory else _file_among(entry, directory, stems)
         except OSError as error:
-            yield Dump(entry.path, error=error.strerror)
+            it = Dump(entry.path, error=error.strerror)
+        if it:
+            found.append(it)
+    if not found and not any(_METADATA.search(entry.name) for entry in entries):
+        return [Dump(directory, error="no dump is below this directory")]
+    return found
 
 
 def _file_among(entry: os.DirEntry[str], directory: str, stems: set[str]) -> Dump | None:
@@ -186,24 +168,21 @@ def read_log(lines: Iterable[str]) -> Log:
     return Log(documents, oplog)
 
 
-def namespace_of(name: str) -> str:
+def namespace_of(name: str) -> Namespace:
     """The database and the collection whose dump a file is: by its directory, and by its name or the metadata beside it.
 
     mongodump shortens the name of a file whose collection has a long name, so the name in the metadata decides.
     """
     if name == "-":
-        return name
+        return Namespace("", name)
     if is_oplog(name):
-        return str(OPLOG)
+        return OPLOG
     member = member_of(name)
     directory, base = os.path.split(os.path.abspath(name))
-    stem = member.namespace.collection if member else _ENDING.sub("", base)
+    stem = member.namespace.collection if member else stem_of_file(base)
     if stem.startswith("$admin."):
-        return unquote(stem[1:])  # The users and roles of one database are dumped beside it.
-    if member:
-        return str(member.namespace)
-    metadata, _ = read_metadata(name)
-    return f"{os.path.basename(directory)}.{collection_of(name, metadata)}"
+        return Namespace.of(unquote(stem[1:]))  # The users and roles of one database are dumped beside it.
+    return member.namespace if member else Namespace(os.path.basename(directory), collection_of(name, read_metadata(name)[0]))
 
 
 def place_of(name: str) -> str | None:
@@ -248,7 +227,7 @@ def stem_wanted(path: str, metadata: dict[str, Any] | None) -> str | None:
 def collection_of(path: str, metadata: dict[str, Any] | None) -> str:
     """The name of the collection of a dump or of metadata, by the metadata or else by the name of the file."""
     collection = (metadata or {}).get("collectionName")
-    return collection if isinstance(collection, str) else unquote(_ENDING.sub("", _METADATA.sub("", os.path.basename(path))))
+    return collection if isinstance(collection, str) else unquote(stem_of_file(_METADATA.sub("", os.path.basename(path))))
 
 
 def metadata_below(directory: str) -> Iterator[tuple[str, dict[str, Any]]]:
@@ -258,8 +237,3 @@ def metadata_below(directory: str) -> Iterator[tuple[str, dict[str, Any]]]:
             metadata, _ = read_metadata_file(os.path.join(inner, name))
             if metadata is not None:
                 yield os.path.join(inner, name), metadata
-
-
-def stem_of_file(name: str) -> str:
-    """The name of the file of a dump, without an ending."""
-    return _ENDING.sub("", name)

@@ -4,7 +4,7 @@ from __future__ import annotations
 
 import re
 import struct
-from typing import Callable, Iterable, Iterator, NamedTuple
+from typing import Iterable, Iterator, NamedTuple
 
 from .._dumps.checking import checking, faults_of, finish_check
 from .._dumps.framing import LONGEST, SHORTEST
@@ -55,8 +55,8 @@ class Check:
 class Beginnings:
     """The places of a stream from which documents follow one another without damage."""
 
-    def __init__(self, window: Window, check: Check, say: Callable[[str], None]) -> None:
-        self._window, self._check, self._say = window, check, say
+    def __init__(self, window: Window, check: Check) -> None:
+        self._window, self._check = window, check
 
     def after(self, start: int, end: int | None = None) -> int | None:
         """Where a document begins after a wrong length and before an end, None if none seems to. What is before that is dropped."""
@@ -71,11 +71,11 @@ class Beginnings:
             self._window.drop(max(at - _LONGEST_NAME, self._window.start))
         return None
 
-    def inside(self, start: int, end: int, kind: str) -> int | None:
-        """Where documents begin that the length of a bad document skips, None if this length seems to be right.
+    def inside(self, start: int, end: int, kind: str) -> tuple[int | None, bool]:
+        """Where documents begin inside of a bad document, and whether they are a part of it, such as a dump in its binary data.
 
-        It is wrong where documents are inside from which others lead on to the end or beyond it, or where none begins at the
-        end. Else they are a part of the document, such as a dump in its binary data.
+        They are none, and the length of the bad document is wrong, where others lead on from them to the end or beyond it, or where
+        none begins at the end.
         """
         is_whole = kind in NO_DAMAGE
         pattern = _NEXT_BEGINNING if is_whole else _BEGINNING
@@ -83,12 +83,8 @@ class Beginnings:
         data = self._window.part(start, min(end + _BEFORE, self._window.end))
         places = _places(pattern, data, SHORTEST, not is_whole)
         for beginning in self._undamaged(self._chain(start + it, start) for it in places):
-            if self._reaches(beginning, end) or not self._is_end_or_beginning(end):
-                return beginning
-            inside = f"documents stand inside it from byte {beginning} on"
-            self._say(f"bad document at byte {start}: {inside}, and are copied with it")
-            return None
-        return None
+            return beginning, not self._reaches(beginning, end) and self._is_end_or_beginning(end)
+        return None, False
 
     def _reaches(self, at: int, end: int) -> bool:
         """Whether documents lead on from there to a place or beyond it."""

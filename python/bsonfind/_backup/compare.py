@@ -15,9 +15,8 @@ from .._dumps.sources import Source
 from .._errors import BsonfindError, why
 from .backups import dumps_below
 from .sorting import Sorter
+from .texts import batches
 
-# How many keys, or bytes of keys, are printed at once.
-_MOST_KEYS, _MOST_BYTES = 1000, 1 << 22
 # How documents differ, in the order in which they are counted.
 KINDS = ("same", "changed", "removed", "added")
 
@@ -107,63 +106,35 @@ def compare(pair: Pair, path: str, program: str, say: Callable[[str], None]) -> 
                 sorter.add(b"%s\t%s%s" % (key, blake2b(document, digest_size=16).hexdigest().encode(), mark))
 
             documents[side] = _each_document(name, program, take)
-        with _Keys(program, say) as keys:
-            return _compare_sorted(sorter.all(), (documents[0], documents[1]), path, keys)
+        counts: Counter[str] = Counter()
+        for lines in batches(_differences(sorter.all(), path, counts), lambda line: len(line[1])):
+            values = [bytes.fromhex(key.decode()) for _, key, _ in lines if key]
+            texts = iter(texts_of_values(values, program) if values else ())
+            for before, key, after in lines:
+                say(f"{before}{next(texts) if key else ''}{after}")
+    repeated, without = counts.pop("repeated", 0), counts.pop("without", 0)
+    return Comparison((documents[0], documents[1]), counts, repeated, without)
 
 
-class _Keys:
-    """Lines that name keys, whose texts some at once are made by one run."""
-
-    def __init__(self, program: str, say: Callable[[str], None]) -> None:
-        self._program, self._say = program, say
-        self._waiting: list[tuple[str, bytes, str]] = []
-        self._size = 0
-
-    def say(self, before: str, key: bytes = b"", after: str = "") -> None:
-        """Prints a line of a text, a key and another text."""
-        self._waiting.append((before, key, after))
-        self._size += len(key)
-        if len(self._waiting) >= _MOST_KEYS or self._size >= _MOST_BYTES:
-            self._print()
-
-    def _print(self) -> None:
-        lines, self._waiting, self._size = self._waiting, [], 0
-        values = [bytes.fromhex(key.decode()) for _, key, _ in lines if key]
-        texts = iter(texts_of_values(values, self._program) if values else ())
-        for before, key, after in lines:
-            self._say(f"{before}{next(texts) if key else ''}{after}")
-
-    def __enter__(self) -> _Keys:
-        return self
-
-    def __exit__(self, kind: object, *_: object) -> None:
-        if kind is None:
-            self._print()
-
-
-def _compare_sorted(lines: Iterator[bytes], documents: tuple[int, int], path: str, keys: _Keys) -> Comparison:
-    """Compares the sorted lines of two dumps."""
-    kinds: Counter[str] = Counter()
-    repeated = without = 0
+def _differences(lines: Iterator[bytes], path: str, counts: Counter[str]) -> Iterator[tuple[str, bytes, str]]:
+    """What sorted lines of two dumps differ in, each as a text, a key and another text. The documents of each kind are counted."""
     for key, first, second, same in _by_key(lines):
+        counts["same"] += same
         if key and same == first == second == 1:
-            kinds["same"] += 1
             continue
         removed, added = first - same, second - same
-        if key:
-            changed = min(removed, added)
-            counts = {"changed": changed, "removed": removed - changed, "added": added - changed}
-            if max(first, second) > 1:
-                repeated += sum(count for count in (first, second) if count > 1)
-                keys.say("repeated ", key, f": {first} and {second} documents")
-            for kind, count in counts.items():
-                for _ in range(count):
-                    keys.say(f"{kind} ", key)
-        else:
-            counts, without = {"removed": removed, "added": added}, first + second
-            keys.say(f"without {path}: {first} and {second} documents, {removed} removed, {added} added")
-        kinds.update(counts, same=same)
-    return Comparison(documents, kinds, repeated, without)
+        if not key:
+            counts.update(removed=removed, added=added, without=first + second)
+            yield f"without {path}: {first} and {second} documents, {removed} removed, {added} added", key, ""
+            continue
+        if max(first, second) > 1:
+            counts["repeated"] += sum(count for count in (first, second) if count > 1)
+            yield "repeated ", key, f": {first} and {second} documents"
+        changed = min(removed, added)
+        for kind, count in (("changed", changed), ("removed", removed - changed), ("added", added - changed)):
+            counts[kind] += count
+            for _ in range(count):
+                yield f"{kind} ", key, ""
 
 
 def _by_key(lines: Iterator[bytes]) -> Iterator[tuple[bytes, int, int, int]]:

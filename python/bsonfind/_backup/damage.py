@@ -68,8 +68,9 @@ def _detail(window: Window, fault: Fault, start: int, program: str, group: Group
     window.has(start + _HEAD)
     value = window.byte(fault.offset) if fault.kind in _OF_A_BYTE and fault.offset < window.end else None
     head = window.part(start, min(start + _HEAD, end or window.end))
-    beginnings = Beginnings(window, Check(program, group), lambda _: None)
-    goes_on = beginnings.after(start, start + 2 * LONGEST) if end is None else beginnings.inside(start, end, fault.kind)
+    beginnings = Beginnings(window, Check(program, group))
+    inside, is_part = (None, False) if end is None else beginnings.inside(start, end, fault.kind)
+    goes_on = beginnings.after(start, start + 2 * LONGEST) if end is None else None if is_part else inside
     return Detail(value, _id_of(head, program, group), goes_on)
 
 

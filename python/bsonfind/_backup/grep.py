@@ -2,10 +2,7 @@
 
 from __future__ import annotations
 
-import queue
 import re
-import select
-import threading
 from collections import deque
 from concurrent.futures import Future, ThreadPoolExecutor
 from itertools import chain
@@ -14,28 +11,23 @@ from uuid import UUID
 
 from .._dumps.archive import Archive, is_archive
 from .._dumps.archive_frames import Namespace, joined_pieces
-from .._dumps.files import name_in
+from .._dumps.files import HEAD, member_of, name_in
 from .._dumps.printing import texts_of_values
 from .._dumps.sources import Source
 from .._errors import BsonfindError, is_finding, why
-from .._faults import Fault
 from .._run.processes import Group
 from .._run.wide import wide_program
 from .backups import Dump
-from .salvage import Salvaging
+from .salvage import Copied, Salvaging
 from .search import Found, Match, Search, Wanted
 from .split import split
 from .watching import Watch
 from .workers import Workers
 
-# How many files are read at once at most, how many searches of one wait, and how many bytes one search has.
-_MOST_AHEAD, _MOST_WAITING, _MOST = 4, 4, 1 << 20
+# How many files are begun at once at most, and how many bytes one search has.
+_MOST_AHEAD, _MOST = 4, 1 << 20
 # How many faults of a file are named one by one.
 _MOST_FAULTS = 10
-# As many bytes as say whether a pipe is an archive.
-_HEAD = 256
-# The seconds between two looks at what may have ended, and those for which a pipe that is being opened is waited for at the end.
-_TICK, _PATIENCE = 0.2, 1.0
 _OID = re.compile(r"[0-9a-fA-F]{24}")
 _UUID = re.compile(r"[0-9a-fA-F]{8}-(?:[0-9a-fA-F]{4}-){3}[0-9a-fA-F]{12}")
 
@@ -88,175 +80,122 @@ def grep_dumps(
     wide_program(program)
     with watch(len(dumps), sum(it.size or 0 for it in dumps)) as progress:
         grep = _Grep(wanted, jobs, program, progress)
-        ahead: deque[_Reading] = deque()
+        ahead: deque[Iterator[list[Item]]] = deque()
         try:
             for dump in dumps:
-                ahead.append(_Reading(grep, dump))
+                items = grep.items(dump)
+                ahead.append(chain([next(items, [])], items))  # The check of the dump is begun.
                 if len(ahead) >= min(jobs, _MOST_AHEAD):
-                    yield from ahead[0].items()
-                    ahead.popleft()
+                    yield from chain.from_iterable(ahead.popleft())
             while ahead:
-                yield from ahead[0].items()
-                ahead.popleft()
+                yield from chain.from_iterable(ahead.popleft())
         finally:
-            grep.end(ahead)
-
-
-class _Stopped(Exception):
-    """No one reads the rest."""
+            grep.end()
 
 
 class _Grep:
-    """What the threads that read dumps share."""
+    """The search of dumps. A process looks at some documents while others are read and checked."""
 
     def __init__(self, wanted: Wanted, jobs: int, program: str, progress: Watch) -> None:
-        self.group, self.program, self.progress, self.seconds = Group(), program, progress, wanted.seconds
-        self.is_stopped = False
-        self.pool = ThreadPoolExecutor(jobs)
-        self._workers = Workers(Search(wanted).run, self.group)
+        self._group, self._program, self._progress, self._seconds = Group(), program, progress, wanted.seconds
+        self._pool, self._most = ThreadPoolExecutor(jobs), jobs
+        self._workers = Workers(Search(wanted).run, self._group)
 
-    def search(self, file: str, name: str, data: bytes) -> list[Item]:
-        """What is found in some documents, with the texts of it, and what took too long."""
-        found: Found = self._workers.run(data)
-        values = [value for match in (*found.matches, *found.slow) for value in (match.id, *(it for _, it in match.fields)) if value]
-        texts = iter(texts_of_values(values, self.program, self.group) if values else ())
+    def items(self, dump: Dump) -> Iterator[list[Item]]:
+        """What is found in a dump, some at once; at first nothing, when its check is begun."""
+        name = dump.name
+        try:
+            if dump.error:
+                yield [Problem(name, name, dump.error, dump.is_fault)]
+                return
+            with Source(name) as source, self._progress.over(source):
+                pieces = joined_pieces(source.raw(), HEAD)
+                head = next(pieces)
+                pieces = chain([head], pieces)
+                if is_archive(head) and not member_of(name):
+                    yield from self._items_of_archive(name, Archive(pieces))
+                else:
+                    yield from self._search(name, name, source.unpacked(pieces) if source.is_packed else pieces)
+        except (BsonfindError, OSError) as error:
+            yield [self._problem(name, name, error)]
+        self._progress.add_file()
+
+    def _items_of_archive(self, file: str, archive: Archive) -> Iterator[list[Item]]:
+        """The same of the collections of an archive, which are searched side by side, as they come."""
+        found: deque[list[Item]] = deque()
+
+        def search(namespace: Namespace, documents: Source) -> None:
+            name = name_in(file, namespace)
+            try:
+                found.extend(self._search(file, name, documents.pieces()))
+            except (BsonfindError, OSError) as error:
+                found.append([self._problem(file, name, error)])
+
+        try:
+            for end in split(archive, search, self._group):
+                if end and end.error:
+                    found.append([Problem(file, name_in(file, end.namespace), end.error, True)])
+                while found:
+                    yield found.popleft()
+        except (BsonfindError, OSError) as error:
+            found.append([self._problem(file, file, error)])
+        yield from found
+
+    def _search(self, file: str, name: str, pieces: Iterator[bytes]) -> Iterator[list[Item]]:
+        """What is found in the good documents of a dump, and the faults of others."""
+        waiting: deque[Future[list[Item]] | list[Item]] = deque()
+        faults = 0
+        for part in Salvaging(pieces, self._program, self._group, _MOST).parts():
+            fault = part.fault if isinstance(part, Copied) else None
+            if isinstance(part, Copied) and not fault:
+                if part.data:
+                    waiting.append(self._pool.submit(self._found, file, name, bytes(part.data)))
+                else:
+                    yield []
+            else:
+                faults += bool(fault)
+                if not fault or faults <= _MOST_FAULTS:
+                    waiting.append([Problem(file, name, str(fault or part), True)])
+            if len(waiting) > self._most:
+                yield _done(waiting.popleft())
+        for it in waiting:
+            yield _done(it)
+        if faults > _MOST_FAULTS:
+            yield [Problem(file, name, f"and {faults - _MOST_FAULTS} more", True)]
+
+    def _found(self, file: str, name: str, data: bytes) -> list[Item]:
+        """What is found in some documents, with its texts, and what took too long. Where Python or the program fails, all is ended."""
+        try:
+            found: Found = self._workers.run(data)
+            values = [value for match in (*found.matches, *found.slow) for value in (match.id, *(it for _, it in match.fields)) if value]
+            texts = iter(texts_of_values(values, self._program, self._group) if values else ())
+        except BsonfindError as error:
+            self._group.end(error)
+            raise
         items: list[Item] = [Hits(file, name, found.documents, found.fields, [row for it in found.matches for row in _rows(it, texts)])]
         for slow in (row for it in found.slow for row in _rows(it, texts)):
             at = f'_id {slow.id}, path "{slow.path}"' if slow.id else f'path "{slow.path}"'
-            items.append(Problem(file, name, f"{at}: the pattern takes longer than {self.seconds:g} seconds", True))
+            items.append(Problem(file, name, f"{at}: the pattern takes longer than {self._seconds:g} seconds", True))
         return items
 
-    def end(self, readings: Sequence[_Reading]) -> None:
-        """Ends all that runs. What is being read ends soon, unless it is a pipe that no one writes to."""
-        self.is_stopped = True
-        self.group.end()
-        for reading in readings:
-            reading.join(_PATIENCE)
-        self.pool.shutdown(cancel_futures=True)
+    def _problem(self, file: str, name: str, error: BsonfindError | OSError) -> Problem:
+        """Why a dump was not searched; where all was ended, that is raised."""
+        if self._group.is_ended:
+            raise error
+        return Problem(file, name, why(error), is_finding(error))
+
+    def end(self) -> None:
+        """Ends all that runs."""
+        self._group.end()
+        self._pool.shutdown(cancel_futures=True)
         self._workers.close()
+
+
+def _done(items: Future[list[Item]] | list[Item]) -> list[Item]:
+    return items.result() if isinstance(items, Future) else items
 
 
 def _rows(match: Match, texts: Iterator[str]) -> list[Row]:
     """The fields of a document with their texts, of which the first is that of its id."""
     number = next(texts) if match.id else None
     return [Row(number, path, next(texts) if value else None) for path, value in match.fields]
-
-
-class _Reading(threading.Thread):
-    """A thread that reads a dump and has its documents searched. It does not keep the process alive."""
-
-    def __init__(self, grep: _Grep, dump: Dump) -> None:
-        super().__init__(daemon=True)
-        self._grep, self._dump = grep, dump
-        self._items: queue.Queue[Item | Future[list[Item]] | BaseException | None] = queue.Queue(_MOST_WAITING)
-        self.start()
-
-    def items(self) -> Iterator[Item]:
-        """What is found, as it comes."""
-        while (item := self._items.get()) is not None:
-            if isinstance(item, BaseException):
-                raise item
-            yield from item.result() if isinstance(item, Future) else [item]
-
-    def run(self) -> None:
-        """Reads all of it, or up to an error."""
-        try:
-            try:
-                self._read()
-                self._grep.progress.add_file()
-            except (BsonfindError, OSError) as error:
-                self._put(self._problem(self._dump.name, error))
-            except _Stopped:
-                raise
-            except BaseException as error:  # noqa: BLE001 - it is raised where the items are read
-                self._put(error)
-            self._put(None)
-        except _Stopped:
-            pass  # No one reads what was found.
-
-    def _put(self, item: Item | Future[list[Item]] | BaseException | None) -> None:
-        """Gives an item to whoever reads them, once there is space for it."""
-        while not self._grep.is_stopped:
-            try:
-                return self._items.put(item, timeout=_TICK)
-            except queue.Full:
-                continue  # It is tried again until no one reads any more.
-        raise _Stopped
-
-    def _problem(self, name: str, error: BsonfindError | OSError) -> Problem:
-        return Problem(self._dump.name, name, why(error), is_finding(error))
-
-    def _read(self) -> None:
-        name = self._dump.name
-        if self._dump.error:
-            self._put(Problem(name, name, self._dump.error, self._dump.is_fault))
-            return
-        with Source(name) as source, self._grep.progress.over(source):
-            raw = self._raw(source)
-            if source.is_packed:
-                self._search(name, source.unpacked(raw))
-                return
-            joined = joined_pieces(raw, _HEAD)
-            head = next(joined)
-            if is_archive(head):
-                self._read_archive(name, Archive(chain([head], joined)))
-            else:
-                self._search(name, chain([head], joined))
-
-    def _raw(self, source: Source) -> Iterator[bytes]:
-        """The bytes of a file, or of a pipe up to the end of all."""
-        raw = source.raw()
-        waiting = select.poll()
-        if source.size is None:
-            waiting.register(source.file, select.POLLIN)
-        while True:
-            while source.size is None and not waiting.poll(_TICK * 1000):
-                if self._grep.is_stopped:
-                    raise _Stopped
-            piece = next(raw, b"")
-            if not piece:
-                return
-            yield piece
-
-    def _read_archive(self, name: str, archive: Archive) -> None:
-        """Searches the collections of an archive side by side, as they come."""
-
-        def search(namespace: Namespace, documents: Source) -> None:
-            try:
-                self._search(name_in(name, namespace), documents.pieces())
-            except (BsonfindError, OSError) as error:
-                self._put(self._problem(name_in(name, namespace), error))
-
-        is_read = True
-        try:
-            for end in split(archive, search):
-                if end.error:
-                    self._put(Problem(name, name_in(name, end.namespace), end.error, True))
-        except (BsonfindError, OSError) as error:
-            problem = self._problem(name, error)
-            is_read = problem.is_fault
-            self._put(problem)
-        for namespace in archive.unended() if is_read else ():
-            self._put(Problem(name, name_in(name, namespace), "no end", True))
-
-    def _search(self, name: str, pieces: Iterator[bytes]) -> None:
-        """Searches the good documents of a dump, and names the others."""
-        file, faults = self._dump.name, 0
-
-        def note(fault: Fault) -> None:
-            nonlocal faults
-            faults += 1
-            if faults <= _MOST_FAULTS:
-                self._put(Problem(file, name, str(fault), True))
-
-        def say(text: str) -> None:
-            self._put(Problem(file, name, text, True))
-
-        grep = self._grep
-
-        def search(data: bytes | memoryview) -> None:
-            self._put(grep.pool.submit(grep.search, file, name, bytes(data)))
-
-        Salvaging(pieces, search, lambda _: None, grep.program, say, note, grep.group, _MOST).copy()
-        if faults > _MOST_FAULTS:
-            self._put(Problem(file, name, f"and {faults - _MOST_FAULTS} more", True))

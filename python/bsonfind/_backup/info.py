@@ -11,8 +11,8 @@ from .._dumps.archive import Listed
 from .._dumps.archive_frames import Namespace
 from .._dumps.files import INSIDE, member_of, name_in
 from .audit import audit_dumps
-from .backups import collection_of, dumps_of, metadata_below, stem_of_file, stem_wanted
-from .metadata import kind_of, read_metadata
+from .backups import collection_of, dumps_of, metadata_below, namespace_of, stem_wanted
+from .metadata import kind_of, read_metadata, stem_of_file
 from .reports import Audit, Report
 from .watching import Watch
 
@@ -101,7 +101,7 @@ def _of_files(reports: Iterable[Report], names: Iterable[str], lists: dict[str, 
         found = read_metadata(report.name)[0] if found is None else found
         if found is not None or report.namespace:
             is_own = path == report.name or kind_of(found or {}) != "timeseries"
-            namespace = Namespace.of(report.namespace) if report.namespace and is_own else _namespace_of(path, found)
+            namespace = namespace_of(report.name) if report.namespace and is_own else _namespace_of(path, found)
             yield _entry(report.name, namespace, found, report)
     for path, metadata in described.values():
         yield _entry(path, _namespace_of(path, metadata), metadata, None)
@@ -156,24 +156,21 @@ def _is_in(file: str, name: str) -> bool:
 
 def _plain(value: Any) -> Any:
     """A value of metadata, with numbers of JSON in place of those of Extended JSON."""
-    if isinstance(value, list):
-        return [_plain(it) for it in value]
-    if not isinstance(value, dict):
-        return value
+    return json.loads(json.dumps(value), object_hook=_number)
+
+
+def _number(value: dict[str, Any]) -> Any:
+    """The number of an object of Extended JSON, or else the object; NaN and infinity have none."""
     name, text = next(iter(value.items())) if len(value) == 1 else ("", None)
-    if name in _NUMBERS and isinstance(text, str):
-        try:
-            return _of_double(float(text)) if name == "$numberDouble" else int(text)
-        except ValueError:
-            return value
-    return {name: _plain(it) for name, it in value.items()}
-
-
-def _of_double(number: float) -> float:
-    """A double as JSON has it; NaN and infinity are errors."""
-    if not isfinite(number):
-        raise ValueError
-    return int(number) if number.is_integer() and abs(number) < _EXACT else number
+    if name not in _NUMBERS or not isinstance(text, str):
+        return value
+    try:
+        number = float(text) if name == "$numberDouble" else int(text)
+    except ValueError:
+        return value
+    if isinstance(number, int):
+        return number
+    return value if not isfinite(number) else int(number) if number.is_integer() and abs(number) < _EXACT else number
 
 
 def _text(value: Any) -> str:

@@ -6,10 +6,10 @@ import json
 import os
 import re
 import stat
-from typing import Any, Iterator
+from typing import Any
 
 from .._dumps.archive import Listed
-from .._dumps.archive_frames import Namespace
+from .._dumps.archive_frames import Namespace, joined_pieces
 from .._dumps.files import member_of
 from .._dumps.gzip import unpacked
 from .._errors import DumpError
@@ -73,14 +73,13 @@ def kind_of(metadata: dict[str, Any]) -> str:
     return "timeseries" if kind == "timeseries" or "timeseries" in keys else "capped" if keys.get("capped") else "collection"
 
 
-def metadata_of(name: str) -> bytes | None:
-    """The text of the metadata of a dump, None if there is none or it cannot be read."""
-    metadata, _ = read_metadata(name)
-    return None if metadata is None else json.dumps(metadata, ensure_ascii=False).encode()
+def stem_of_file(name: str) -> str:
+    """The name of the file of a dump, without an ending."""
+    return _ENDING.sub("", name)
 
 
 def _metadata_names(name: str) -> list[str]:
-    stem = _ENDING.sub("", name)
+    stem = stem_of_file(name)
     return [f"{stem}.metadata.json", f"{stem}.metadata.json.gz"]
 
 
@@ -95,16 +94,6 @@ def read_metadata(name: str) -> tuple[dict[str, Any] | None, str | None]:
     return (None, None) if path is None else read_metadata_file(path)
 
 
-def _first_bytes(pieces: Iterator[bytes], most: int) -> bytes:
-    """The first bytes of some pieces, of which no more are taken."""
-    data = b""
-    for piece in pieces:
-        data += piece
-        if len(data) >= most:
-            break
-    return data[:most]
-
-
 def read_metadata_file(path: str) -> tuple[dict[str, Any] | None, str | None]:
     """The metadata of a file, or what is wrong with it."""
     base = os.path.basename(path)
@@ -115,7 +104,7 @@ def read_metadata_file(path: str) -> tuple[dict[str, Any] | None, str | None]:
                 return None, f"{base}: not a regular file"
             data = file.read(_LONGEST_METADATA + 1)
         if path.endswith(".gz"):
-            data = _first_bytes(unpacked([data]), _LONGEST_METADATA + 1)
+            data = next(joined_pieces(unpacked([data]), _LONGEST_METADATA + 1))
         if len(data) > _LONGEST_METADATA:
             return None, f"{base}: more than {_LONGEST_METADATA} bytes"
         metadata = json.loads(data)

@@ -3,6 +3,7 @@
 from __future__ import annotations
 
 from collections import deque
+from itertools import chain
 from typing import Iterator, NamedTuple, Sequence
 
 from .._ask.lines import counted, try_request
@@ -34,8 +35,7 @@ def query_dumps(dumps: Sequence[Dump], request: Request, jobs: int, program: str
     try:
         for dump in dumps:
             answer = _answer(dump, request, program, group)
-            ahead.append(answer)
-            next(answer)  # starts the first run, whose answer waits until it is read
+            ahead.append(chain([next(answer)], answer))  # Its first run is started, whose answer waits until it is read.
             if len(ahead) >= jobs:
                 yield from ahead.popleft()
         while ahead:
@@ -46,17 +46,14 @@ def query_dumps(dumps: Sequence[Dump], request: Request, jobs: int, program: str
 
 def _answer(dump: Dump, request: Request, program: str, group: Group) -> Iterator[Found]:
     """The documents of a dump, after one thing that is empty, which is given when its first run is started."""
-    name, is_started = dump.name, False
-    wide = wide_program(program, group)
+    name, wide = dump.name, wide_program(program, group)
     try:
         if dump.error:
             raise DumpError(dump.error)
         with Source(name) as source:
             for part in source.inputs(MOST_HELD):
                 with Run.over(part.dump, wide, "find", request.words(), group=group) as run:
-                    if not is_started:
-                        is_started = True
-                        yield Found(name, [])
+                    yield Found(name, [])
                     for lines in lines_of(run.stdout):
                         source.check()
                         yield Found(name, lines)
@@ -64,10 +61,6 @@ def _answer(dump: Dump, request: Request, program: str, group: Group) -> Iterato
                         counted(run)
                     except DumpError as error:
                         raise error.moved(part.first, part.offset) from None
-    except (BsonfindError, OSError) as error:
-        if not is_started:
-            yield Found(name, [])
-        yield Found(name, [], error)
-        return
-    if not is_started:
         yield Found(name, [])
+    except (BsonfindError, OSError) as error:
+        yield Found(name, [], error)

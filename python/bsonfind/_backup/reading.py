@@ -13,7 +13,7 @@ from .._dumps.passing import documents_taken
 from .._dumps.printing import Batches
 from .._dumps.sources import Source, up_to_error
 from .._errors import DumpError, is_finding, why
-from .._run.processes import Dump, Group, Run
+from .._run.processes import Dump, Group
 from .reports import MOST_FAULTS, Noting, Report
 from .watching import Watch
 
@@ -62,7 +62,7 @@ class Reading:
                 yield ahead.popleft().good(noting)
         finally:
             for batch in ahead:
-                batch.close()
+                batch.run.close()
             noting.end(documents, size)
         noting.look(source, self._program, self._group)
         if errors:
@@ -80,21 +80,17 @@ class _Batch:
         # What follows the last of them is a document with a wrong length.
         self._count = len(self._documents) + (sum(map(len, self._documents)) < len(data))
         self.end = first + self._count
-        self._run: Run = checking(Dump([data]), program, group)
+        self.run = checking(Dump([data]), program, group)
 
     def good(self, noting: Noting) -> list[bytes]:
         """Those without a fault, once the check has ended."""
         faulty = set()
-        with self._run as run:
+        with self.run as run:
             for fault in faults_of(run):
                 faulty.add(fault.document)
                 noting.add(fault.moved(self._first, self._offset))
             finish_check(run, self._count)
         return [it for number, it in enumerate(self._documents) if number not in faulty] if faulty else self._documents
-
-    def close(self) -> None:
-        """Ends the check."""
-        self._run.close()
 
 
 def _joined(pieces: Iterable[bytes], most: int) -> tuple[bytes, int]:

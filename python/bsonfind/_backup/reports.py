@@ -95,29 +95,13 @@ class Report:
 
     def _fault_as_json(self, fault: Fault) -> dict[str, Any]:
         detail = self.details.get(fault.document, Detail())
-        return {
-            "document": fault.document,
-            "byte": fault.offset,
-            "path": fault.path,
-            "kind": fault.kind,
-            "value": detail.value,
-            "id": None if detail.id is None else json.loads(detail.id),
-            "goes_on": detail.goes_on,
-        }
+        told = {**detail._asdict(), "id": None if detail.id is None else json.loads(detail.id)}
+        return {**dict(zip(("document", "byte", "path", "kind"), fault)), **told}
 
     def as_json(self) -> dict[str, Any]:
         """The report as an object of JSON."""
-        return {
-            "name": self.name,
-            "documents": self.documents,
-            "faulty": self.faulty,
-            "kinds": self.kinds,
-            "faults": [self._fault_as_json(it) for it in self.faults],
-            "rest": self.rest,
-            "error": self.error,
-            "metadata": self.metadata,
-            "expected": self.expected,
-        }
+        names = "name", "documents", "faulty", "kinds", "faults", "rest", "error", "metadata", "expected"
+        return {name: getattr(self, name) for name in names} | {"faults": [self._fault_as_json(it) for it in self.faults]}
 
 
 class Noting:
@@ -241,9 +225,7 @@ class Audit(NamedTuple):
                 "documents": sum(it.documents for it in self.reports),
                 "faulty": sum(self.kinds.values()),
                 "kinds": self.kinds,
-                "miscounted": [it.name for it in self.miscounted],
-                "untold": [it.name for it in self.untold],
-                "copies": [it.name for it in self.copies],
+                **{name: [it.name for it in getattr(self, name)] for name in ("miscounted", "untold", "copies")},
                 "missing": self.missing,
             }
         )

@@ -5,7 +5,7 @@ from __future__ import annotations
 import os
 from collections import deque
 from contextlib import ExitStack, nullcontext
-from typing import Callable, ContextManager, Iterator, NamedTuple, Union
+from typing import Callable, ContextManager, Generator, Iterator, NamedTuple, Union
 
 from .._dumps.outputs import Output, refuse_names
 from .._dumps.sources import Source
@@ -87,7 +87,7 @@ def salvage(
             wide_program(program)
             outputs = [files.enter_context(Output(name, source.mode)) for name in names]
             files.enter_context(progress(source))
-            done = Salvaging(source.pieces(), outputs[0].write, outputs[1].write, program, say or (lambda _: None)).copy()
+            done = Salvaging(source.pieces(), program).copy(outputs[0].write, outputs[1].write, say or (lambda _: None))
         except DumpError as error:
             raise DumpError(f"{os.fsdecode(path)}: {error}", error.fault) from error
         for output in outputs:
@@ -99,52 +99,58 @@ def salvage(
     return done
 
 
-class Salvaging:
-    """The copying of the documents of a stream to one of two files, by whether they have a fault."""
+class Copied(NamedTuple):
+    """Documents without a fault, one after the other, or one with its fault."""
 
-    def __init__(
-        self,
-        pieces: Iterator[bytes],
-        good: Take,
-        bad: Take,
-        program: str,
-        say: Callable[[str], None],
-        note: Callable[[Fault], None] = lambda _: None,
-        group: Group | None = None,
-        most: int | None = None,
-    ) -> None:
-        """What is left out is said, and the fault of each bad document is noted. One run checks this many bytes at most."""
+    data: bytes | memoryview
+    fault: Fault | None = None
+
+
+class Salvaging:
+    """The reading of the documents of a stream, of those too that have a fault or follow a wrong length."""
+
+    def __init__(self, pieces: Iterator[bytes], program: str, group: Group | None = None, most: int | None = None) -> None:
+        """One run checks this many bytes at most."""
         self._window = Window(pieces)
-        self._take_good, self._take_bad = good, bad
-        self._check, self._say, self._note = Check(program, group), say, note
-        self._beginnings = Beginnings(self._window, self._check, say)
+        self._check = Check(program, group)
+        self._beginnings = Beginnings(self._window, self._check)
         self._good = self._bad = 0
         self._left_out: list[LeftOut] = []
         # Documents that are being checked, how many runs do so at most, and the bytes that the next one checks.
         self._ahead: deque[_Batch] = deque()
         self._most_ahead, self._size, self._most = min(processors(), _MOST_AHEAD), _FIRST, most or _MOST
 
-    def copy(self) -> Salvaged:
-        """Copies all documents whose length is known."""
+    def copy(self, good: Take, bad: Take, say: Callable[[str], None]) -> Salvaged:
+        """Has documents taken by whether they have a fault, and says what is left out."""
+        for part in self.parts():
+            if isinstance(part, Copied):
+                (bad if part.fault else good)(part.data)
+            else:
+                say(str(part))
+        return Salvaged(self._good, self._bad, self._left_out, self._window.error)
+
+    def parts(self) -> Iterator[Copied | LeftOut | str]:
+        """The documents whose length is known, what is left out, and what else is said; at first nothing, when some are being checked."""
         at = 0
         try:
+            self._check_ahead(at)
+            yield Copied(b"")
             while self._check_ahead(at) or self._window.has(at + 1):
                 if self._ahead:
                     batch = self._ahead.popleft()
-                    at = self._copy_documents(batch)
+                    at = yield from self._documents(batch)
                     if at != batch.ends[-1]:
                         self._forget_ahead()
                     self._window.drop(self._ahead[-1].ends[-1] if self._ahead else at)
                 else:
                     found = self._beginnings.after(at)
-                    at = self._leave_out(LeftOut(at, self._window.end if found is None else found, found is not None))
+                    at = yield from self._leave_out(LeftOut(at, self._window.end if found is None else found, found is not None))
                     self._size = _FIRST
                     self._window.drop(at)
         finally:
             self._forget_ahead()
         if self._window.error:
-            self._say(f"byte {at}: {self._window.error}; nothing after it can be read")
-        return Salvaged(self._good, self._bad, self._left_out, self._window.error)
+            yield f"byte {at}: {self._window.error}; nothing after it can be read"
 
     def _check_ahead(self, at: int) -> bool:
         """Starts runs over the documents from there on, one for each processor; False where the first length is wrong."""
@@ -165,34 +171,34 @@ class Salvaging:
             self._ahead.pop().run.close()
         self._size = _FIRST
 
-    def _copy_documents(self, batch: _Batch) -> int:
-        """Copies documents, and gives the place after them, or that of documents which a wrong length skips."""
+    def _documents(self, batch: _Batch) -> Generator[Copied | LeftOut | str, None, int]:
+        """Documents by whether they have a fault; returns the place after them, or that of what a wrong length skips."""
         start, ends, data = batch.start, batch.ends, memoryview(batch.data)
-        at, copied, before = start, 0, self._good + self._bad + len(self._left_out)
+        at, number, before = start, 0, self._good + self._bad + len(self._left_out)
         faults = self._check.faults([batch.data], len(ends), batch.run)
         if faults:
             # What is in and after a bad document is looked at.
             self._window.put_back(start, b"".join([batch.data, *(it.data for it in self._ahead)]))
         for fault in faults:
-            number = fault.document
-            begin, end = ends[number - 1] if number else start, ends[number]
-            self._take_good(data[at - start : begin - start])
-            self._good += number - copied
-            inside = self._beginnings.inside(begin, end, fault.kind)
-            if inside is not None:
-                return self._leave_out(LeftOut(begin, inside, True, True))
-            self._take_bad(data[begin - start : end - start])
-            self._note(fault.moved(before, start))
+            begin, end = ends[fault.document - 1] if fault.document else start, ends[fault.document]
+            self._good += fault.document - number
+            yield Copied(data[at - start : begin - start])
+            inside, is_part = self._beginnings.inside(begin, end, fault.kind)
+            if is_part:
+                yield f"bad document at byte {begin}: documents stand inside it from byte {inside} on, and are copied with it"
+            elif inside is not None:
+                return (yield from self._leave_out(LeftOut(begin, inside, True, True)))
             self._bad += 1
-            at, copied = end, number + 1
-        self._take_good(data[at - start :])
-        self._good += len(ends) - copied
+            yield Copied(data[begin - start : end - start], fault.moved(before, start))
+            at, number = end, fault.document + 1
+        self._good += len(ends) - number
+        yield Copied(data[at - start :])
         return ends[-1]
 
-    def _leave_out(self, left_out: LeftOut) -> int:
-        """Notes what is left out, and gives the place after it."""
+    def _leave_out(self, left_out: LeftOut) -> Generator[LeftOut, None, int]:
+        """Notes what is left out; returns the place after it."""
         self._left_out.append(left_out)
-        self._say(str(left_out))
+        yield left_out
         return left_out.end
 
 

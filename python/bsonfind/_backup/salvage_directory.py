@@ -2,17 +2,17 @@
 
 from __future__ import annotations
 
+import json
 import os
 from contextlib import ExitStack
-from functools import partial
 from typing import Callable, ContextManager, NamedTuple
 
 from .._dumps.outputs import NewOutput, is_same
 from .._dumps.sources import Source
 from .._errors import ArgumentError, BsonfindError, FileError, why
 from .._run.wide import wide_program
-from .backups import Dump, dumps_below, stem_of_file
-from .metadata import metadata_of
+from .backups import Dump, dumps_below
+from .metadata import read_metadata, stem_of_file
 from .salvage import Salvaged, Salvaging
 
 # The endings of the files that are written of a dump, and those that they have before they are whole.
@@ -50,7 +50,7 @@ def salvage_directory(
                 done.problems.append(f"{dump.name}: {dump.error}")
                 continue
             name = os.path.join(out, os.path.relpath(stem_of_file(dump.name), directory))
-            done.files[dump.name] = _salvage_one(dump, name, program, partial(_say_of, say, dump.name), progress)
+            done.files[dump.name] = _salvage_one(dump, name, program, say, progress)
         except FileError as error:
             done.problems.append(str(error))
         except (BsonfindError, OSError) as error:
@@ -61,34 +61,28 @@ def salvage_directory(
 def _salvage_one(
     dump: Dump, name: str, program: str, say: Callable[[str], None], progress: Callable[[Source], ContextManager[object]]
 ) -> Salvaged:
+    def say_of(text: str) -> None:
+        say(f"{dump.name}: {text}")
+
     with ExitStack() as files:
         source = files.enter_context(Source(dump.name))
         files.enter_context(progress(source))
         source.refuse_archive()
-        _make_directory(os.path.dirname(name))
-        good, bad = (NewOutput(name + ending, name + ending + _PART, source.mode) for ending in (_GOOD, _BAD))
-        files.enter_context(good)
-        files.enter_context(bad)
-        metadata = metadata_of(dump.name)
-        about = NewOutput(name + _METADATA, name + _METADATA + _PART, source.mode) if metadata is not None else None
-        if about:
-            files.enter_context(about)
-            about.write(metadata or b"")
-        done = Salvaging(source.pieces(), good.write, bad.write, program, say).copy()
-        for output in (good, *([bad] if done.bad else []), *([about] if about else [])):
-            output.complete()
-            output.put_in_place()
+        try:
+            os.makedirs(os.path.dirname(name), exist_ok=True)
+        except OSError as error:
+            raise FileError(error.errno, error.strerror, os.path.dirname(name)) from None
+        metadata, _ = read_metadata(dump.name)
+        endings = (_GOOD, _BAD) if metadata is None else (_GOOD, _BAD, _METADATA)
+        outputs = [files.enter_context(NewOutput(name + ending, name + ending + _PART, source.mode)) for ending in endings]
+        good, bad, *about = outputs
+        for output in about:
+            output.write(json.dumps(metadata, ensure_ascii=False).encode())
+        done = Salvaging(source.pieces(), program).copy(good.write, bad.write, say_of)
+        for output in outputs:
+            if output is not bad or done.bad:
+                output.complete()
+                output.put_in_place()
         told = f", {done.bad} to {name}{_BAD}, {done.bytes_left_out} bytes left out" if not done.is_good else ""
-        say(f"{done.good} documents to {name}{_GOOD}{told}")
+        say_of(f"{done.good} documents to {name}{_GOOD}{told}")
     return done
-
-
-def _say_of(say: Callable[[str], None], name: str, text: str) -> None:
-    say(f"{name}: {text}")
-
-
-def _make_directory(name: str) -> None:
-    try:
-        os.makedirs(name, exist_ok=True)
-    except OSError as error:
-        raise FileError(error.errno, error.strerror, name) from None

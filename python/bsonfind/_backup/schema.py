@@ -164,19 +164,11 @@ class Schema:
             yield from _rows(rest[1:], field, None if field is self._root.others else self.looked_at)
 
 
-class Looked(NamedTuple):
-    """What was found in some documents: their fields, how many paths these have, and how many documents there were."""
-
-    root: Field
-    paths: int
-    documents: int
-
-
 def looked_at(documents: Sequence[bytes]) -> Looked:
-    """What is found in some documents."""
-    looking = _Looking()
-    looking.look(documents)
-    return Looked(looking.root, looking.paths, len(documents))
+    """What is found in some documents without a fault."""
+    looked = Looked()
+    looked.look(documents)
+    return looked
 
 
 def refuse_paths(paths: int) -> None:
@@ -185,19 +177,20 @@ def refuse_paths(paths: int) -> None:
         raise TooManyError(f"the documents have more than {MOST_PATHS:,} paths: --sample N looks at fewer of them")
 
 
-class _Looking:
-    """A look at some documents, which is at all of their values once."""
+class Looked:
+    """What was found in some documents: their fields, how many paths these have, and how many documents there were."""
 
     def __init__(self) -> None:
-        self.root, self.paths = Field(), 0
+        self.root, self.paths, self.documents = Field(), 0, 0
 
     def look(self, documents: Sequence[bytes]) -> None:
-        """Looks at documents without a fault."""
+        """Looks at all values of some documents once."""
         for document in documents:
             self._fields(self.root, document, 4)
         for field in self.root.all():
             for cell in field.cells.values():
                 cell.look()
+        self.documents += len(documents)
 
     def _fields(self, field: Field, data: bytes, at: int) -> int:
         """Takes the fields of a document, whose first one begins at a byte, and gives where it ends."""

@@ -9,8 +9,9 @@ import re
 import signal
 import struct
 import sys
+from contextlib import contextmanager
 from importlib import import_module
-from typing import Any, Iterator, NamedTuple
+from typing import Any, Callable, Iterator, NamedTuple
 
 from .._dumps.elements import SIZES, end_of, value_at
 
@@ -95,7 +96,7 @@ class Search:
         documents = fields = 0
         matches: list[Match] = []
         slow: list[Match] = []
-        with _Alarm(self._look_at_time, self._wanted.seconds if self._pattern else 0.0):
+        with _alarm(self._look_at_time, self._wanted.seconds if self._pattern else 0.0):
             for start, end in self._candidates(data):
                 self._fields, self._slow = [], []
                 self._look(data, start, None, False)
@@ -215,20 +216,18 @@ class Search:
             raise _TooLong
 
 
-class _Alarm:
-    """Calls a function again and again, as often as is needed for a number of seconds; for none never."""
-
-    def __init__(self, ring: object, seconds: float) -> None:
-        self._ring, self._seconds = ring, seconds
-
-    def __enter__(self) -> None:
-        if self._seconds:
-            signal.signal(signal.SIGALRM, self._ring)  # type: ignore[arg-type]
-            signal.setitimer(signal.ITIMER_REAL, self._seconds / _LOOKS, self._seconds / _LOOKS)
-
-    def __exit__(self, *_: object) -> None:
-        if self._seconds:
-            signal.setitimer(signal.ITIMER_REAL, 0)
+@contextmanager
+def _alarm(ring: Callable[..., None], seconds: float) -> Iterator[None]:
+    """Has a function called again and again meanwhile, as often as is needed for a number of seconds; for none never."""
+    if not seconds:
+        yield
+        return
+    signal.signal(signal.SIGALRM, ring)
+    signal.setitimer(signal.ITIMER_REAL, seconds / _LOOKS, seconds / _LOOKS)
+    try:
+        yield
+    finally:
+        signal.setitimer(signal.ITIMER_REAL, 0)
 
 
 def literal_in(pattern: re.Pattern[str]) -> bytes:

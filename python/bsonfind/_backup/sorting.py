@@ -4,6 +4,7 @@ from __future__ import annotations
 
 import heapq
 import tempfile
+from contextlib import AbstractContextManager
 from typing import IO, Iterable, Iterator
 
 from .._errors import ProgramError
@@ -12,7 +13,7 @@ from .._errors import ProgramError
 _MOST_LINES, _MOST_BYTES, _MOST_RUNS = 1 << 18, 1 << 25, 64
 
 
-class Sorter:
+class Sorter(AbstractContextManager["Sorter"]):
     """Lines that are sorted by way of files without names, in the directory for temporary files."""
 
     def __init__(self) -> None:
@@ -46,9 +47,6 @@ class Sorter:
             run.seek(0)
         except OSError as error:
             raise ProgramError(f"cannot sort in {tempfile.gettempdir()}: {error.strerror}: TMPDIR names another directory") from error
-
-    def __enter__(self) -> Sorter:
-        return self
 
     def __exit__(self, *_: object) -> None:
         _close(self._runs)

@@ -9,20 +9,22 @@ from typing import Callable, Iterator
 from .._dumps.archive import Archive, Documents, End
 from .._dumps.archive_frames import Namespace
 from .._dumps.sources import Source
-from .._errors import DumpError
-from .._run.processes import close
+from .._errors import BsonfindError, DumpError, is_finding
+from .._run.processes import Group, close
 
 # This many collections may have begun and not ended. mongodump writes four at once, or as many as its option says.
 MOST_AT_ONCE = 64
 Read = Callable[[Namespace, Source], None]
 
 
-def split(archive: Archive, read: Read) -> Iterator[End]:
-    """Has each collection of an archive read by a thread, and gives the ends of those whose CRC is wrong.
+def split(archive: Archive, read: Read, group: Group) -> Iterator[End | None]:
+    """Has each collection of an archive read by a thread. Gives the ends of all, also of those that have none, and None as blocks pass.
 
-    The archive is read once. What is wrong with it is raised when all threads have read what came before.
+    The archive is read once. What is wrong with it is raised at last, when all threads have read what came before; their runs are
+    ended where the caller leaves or is interrupted.
     """
     readings: dict[Namespace, _Reading] = {}
+    wrong: BsonfindError | OSError | None = None
     with ThreadPoolExecutor(MOST_AT_ONCE) as pool:
         try:
             for block in archive.blocks():
@@ -33,16 +35,27 @@ def split(archive: Archive, read: Read) -> Iterator[End]:
                     reading = readings[block.namespace] = _Reading(block.namespace, read, pool)
                 if isinstance(block, Documents):
                     reading.write(block.data)
+                    yield None
                 else:
                     reading.close()
                     readings.pop(block.namespace).wait()
-                    if block.error:
-                        yield block
+                    yield block
+            for reading in readings.values():
+                reading.close()
+                reading.wait()
+        except (BsonfindError, OSError) as error:
+            wrong = error
+        except (GeneratorExit, KeyboardInterrupt, SystemExit):
+            group.end()
+            raise
         finally:
             for reading in readings.values():
                 reading.close()
-        for reading in readings.values():
-            reading.wait()
+    # After a refusal that is no fault of the archive, ends were not looked for.
+    for namespace in archive.unended() if wrong is None or is_finding(wrong) else ():
+        yield End(namespace, "no end")
+    if wrong:
+        raise wrong
 
 
 class _Reading:

@@ -3,11 +3,12 @@
 from __future__ import annotations
 
 from decimal import Decimal
-from typing import Iterator, Sequence
+from typing import Callable, Iterable, Iterator, Sequence, TypeVar
 
 from .._dumps.numbers import DECIMAL128, Number, is_finite, number_of
 from .._dumps.printing import texts_of_values
 
+T = TypeVar("T")
 # The rank of each type where MongoDB sorts values of several. Numbers of all types have one, and so have texts and symbols.
 _RANKS = {
     0xFF: 0, 0x06: 1, 0x0A: 1, 0x01: 2, 0x10: 2, 0x12: 2, 0x13: 2, 0x02: 3, 0x0E: 3, 0x03: 4, 0x04: 5, 0x05: 6, 0x07: 7, 0x08: 8,
@@ -35,23 +36,26 @@ def text_of_number(number: Number) -> str:
 
 def texts(values: Sequence[bytes], program: str) -> Iterator[str]:
     """The texts of values as `dump` prints them, but numbers without their types."""
-    waiting: list[bytes] = []
+    for some in batches(values, len):
+        others = [it for it in some if number_of(it) is None]
+        printed = iter(texts_of_values(others, program) if others else ())
+        for value in some:
+            number = number_of(value)
+            yield next(printed) if number is None else text_of_number(number)
+
+
+def batches(items: Iterable[T], size_of: Callable[[T], int]) -> Iterator[list[T]]:
+    """Items, as many at once as one run prints."""
+    some: list[T] = []
     size = 0
-    for value in values:
-        waiting.append(value)
-        size += len(value)
-        if len(waiting) == _MOST_VALUES or size > _MOST_BYTES:
-            yield from _texts(waiting, program)
-            waiting, size = [], 0
-    yield from _texts(waiting, program)
-
-
-def _texts(values: list[bytes], program: str) -> Iterator[str]:
-    others = [it for it in values if number_of(it) is None]
-    printed = iter(texts_of_values(others, program) if others else ())
-    for value in values:
-        number = number_of(value)
-        yield next(printed) if number is None else text_of_number(number)
+    for it in items:
+        some.append(it)
+        size += size_of(it)
+        if len(some) == _MOST_VALUES or size >= _MOST_BYTES:
+            yield some
+            some, size = [], 0
+    if some:
+        yield some
 
 
 def order_of(value: bytes, text: str = "") -> tuple[object, ...]:

@@ -17,9 +17,9 @@ _length_at = struct.Struct("<i").unpack_from
 class Window:
     """The bytes of a stream from a place on, as far as they were asked for."""
 
-    def __init__(self, pieces: Iterator[bytes], start: int = 0) -> None:
+    def __init__(self, pieces: Iterator[bytes]) -> None:
         self._pieces = pieces
-        self._held, self.start = bytearray(), start
+        self._held, self.start = bytearray(), 0
         # What ended the stream before its end.
         self.error: str | None = None
 

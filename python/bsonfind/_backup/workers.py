@@ -9,6 +9,7 @@ import sys
 import threading
 from collections import deque
 from concurrent.futures import Future, ThreadPoolExecutor
+from contextlib import AbstractContextManager
 from typing import Any, Callable, Generic, List, TypeVar
 
 from .._errors import BsonfindError, ProgramError
@@ -64,7 +65,7 @@ class Workers:
             worker.close()
 
 
-class Spread(Generic[T]):
+class Spread(Generic[T], AbstractContextManager["Spread[T]"]):
     """Work on documents, some at once, by a process for each processor. What it comes to is taken in the order of the documents.
 
     The first documents wait for others: if there are none, no process is started.
@@ -93,9 +94,6 @@ class Spread(Generic[T]):
             self._take(self._work(self._first))
         while self._ahead:
             self._take(self._ahead.popleft().result())
-
-    def __enter__(self) -> Spread[T]:
-        return self
 
     def __exit__(self, *_: object) -> None:
         self._group.end()
