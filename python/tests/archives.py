@@ -2,7 +2,7 @@
 
 from typing import Iterable, List, Sequence, Tuple
 
-from .bson import document, field, int32, text
+from .bson import document, field, int32, string
 
 MAGIC = (0x8199E26D).to_bytes(4, "little")
 END = b"\xff\xff\xff\xff"
@@ -26,11 +26,6 @@ def crc64(data: bytes) -> int:
     for byte in data:
         crc = _TABLE[(crc ^ byte) & 0xFF] ^ crc >> 8
     return crc ^ _ONES
-
-
-def string(name: str, value: str) -> bytes:
-    """A field that is a text."""
-    return field(0x02, name, text(value))
 
 
 def header(*left_out: str, version: str = "0.1") -> bytes:

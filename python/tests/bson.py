@@ -20,6 +20,11 @@ def text(value: str) -> bytes:
     return (len(data) + 1).to_bytes(4, "little") + data + b"\0"
 
 
+def string(name: str, value: str) -> bytes:
+    """A field that is a text."""
+    return field(0x02, name, text(value))
+
+
 def int32(value: int) -> bytes:
     """The value of an int32."""
     return value.to_bytes(4, "little", signed=True)

@@ -1,32 +1,40 @@
 """Dumps with numbers of all types, for tests of searches."""
 
-import struct
+from decimal import Decimal
 
-
-def document(*fields: bytes) -> bytes:
-    """A document of these fields."""
-    body = b"".join(fields)
-    return (len(body) + 5).to_bytes(4, "little") + body + b"\0"
+from . import bson
+from .bson import document, field, int32
 
 
 def whole(name: str, value: int) -> bytes:
     """An int32."""
-    return b"\x10" + name.encode() + b"\0" + value.to_bytes(4, "little", signed=True)
+    return field(0x10, name, int32(value))
 
 
 def double(name: str, value: float) -> bytes:
     """A double."""
-    return b"\x01" + name.encode() + b"\0" + struct.pack("<d", value)
+    return field(0x01, name, bson.double(value))
 
 
 def decimal(name: str, coefficient: int, power: int) -> bytes:
     """A decimal128."""
-    return b"\x13" + name.encode() + b"\0" + (coefficient | power + 6176 << 113).to_bytes(16, "little")
+    return field(0x13, name, bson.decimal(coefficient, power))
 
 
 def array(name: str, *values: bytes) -> bytes:
     """An array of fields; the names of its elements are theirs."""
-    return b"\x04" + name.encode() + b"\0" + document(*values)
+    return field(0x04, name, document(*values))
+
+
+def embedded(name: str, *fields: bytes) -> bytes:
+    """A document in a document."""
+    return field(0x03, name, document(*fields))
+
+
+def scoped(name: str, *fields: bytes) -> bytes:
+    """Code with these fields as its scope."""
+    value = int32(2) + b"f\0" + document(*fields)
+    return field(0x0F, name, int32(len(value) + 4) + value)
 
 
 # Goods, of which the prices are of several types, and the names of elements of an array are not their positions.
@@ -39,19 +47,33 @@ GOODS = [
     document(whole("_id", 5)),
 ]
 FIRST = '{"_id":{"$numberInt":"0"},"price":{"$numberDouble":"9.5"},"cost":{"$numberDecimal":"19.99"}}'
-
-
-def embedded(name: str, *fields: bytes) -> bytes:
-    """A document in a document."""
-    return b"\x03" + name.encode() + b"\0" + document(*fields)
-
-
-def scoped(name: str, *fields: bytes) -> bytes:
-    """Code with these fields as its scope."""
-    value = (2).to_bytes(4, "little") + b"f\0" + document(*fields)
-    return b"\x0f" + name.encode() + b"\0" + (len(value) + 4).to_bytes(4, "little") + value
-
-
+# Questions of these: a filter, a sort, and the numbers of the documents that are found.
+QUESTIONS = (
+    ({"price": {"$gt": 9.25}}, None, [0, 2, 3]),
+    ({"price": {"$gte": 9, "$lt": 10.25}}, None, [0, 1, 3]),
+    ({"price": 9.0}, None, [1]),
+    ({"price": {"$gte": 9, "$lt": float("inf")}}, None, [0, 1, 2, 3]),
+    ({"price": {"$gt": float("-inf")}}, None, [0, 1, 2, 3, 4]),
+    ({"price": {"$in": [float("inf"), float("nan")]}}, None, []),
+    ({"price": 0}, None, [4]),
+    ({"price": {"$in": [10.25, 30.0, 7]}}, None, [2, 3]),
+    ({"price": {"$elemMatch": {"$lt": 2, "$gt": 1.25}}}, None, [3]),
+    ({"price.0": 1.5}, None, [3]),
+    ({"price": {"$size": 2}}, None, [3]),
+    ({"cost": {"$numberDecimal": "19.990"}}, None, [0]),
+    # The double 19.99 is a bit less than the decimal128.
+    ({"cost": {"$gt": 19.99}}, None, [0, 3, 4]),
+    ({"cost": {"$gte": 19, "$lte": 19.99}}, None, [1, 2]),
+    ({"cost": {"$lt": 19.99}}, None, [1, 2]),
+    ({"cost": {"$lte": Decimal("19.99")}}, None, [0, 1, 2]),
+    ({"cost": Decimal("19")}, None, [1, 2]),
+    ({"cost": 50.0}, None, [3, 4]),
+    ({"_id": {"$gt": 3.5}}, None, [4, 5]),
+    ({"~n": {"$exists": True}}, None, []),
+    ({"price": {"$exists": True}}, [("price", 1)], [4, 3, 1, 0, 2]),
+    ({}, [("price", -1), ("_id", -1)], [3, 2, 0, 1, 4, 5]),
+    ({"cost": {"$type": "number"}}, {"cost": 1}, [1, 2, 0, 3, 4]),
+)
 # Prices which no codes hold: doubles and decimal128 with fractions, at the top, in a document, in arrays and in a scope.
 MIXED = [
     document(

@@ -9,7 +9,7 @@ import tempfile
 import time
 import unittest
 from pathlib import Path
-from typing import Callable, Iterable, List
+from typing import Callable, Iterable, List, Tuple
 
 ROOT = Path(__file__).resolve().parents[2]
 PACKAGE = ROOT / "python"
@@ -26,6 +26,8 @@ SHOP_LINES = (ROOT / "examples/shop.jsonl").read_bytes().splitlines()
 DOUBLE = bytes.fromhex("10000000016400000000000000f03f00")
 DAMAGED = bytes.fromhex("090000000864000200")
 PATIENCE = 60.0
+# What begins a command line of the package.
+COMMAND = [sys.executable, "-m", "bsonfind", "--program", PROGRAM]
 
 
 class Room(unittest.TestCase):
@@ -87,6 +89,18 @@ class Room(unittest.TestCase):
         """The programs, of which all runs of `find` but the first never answer; `pids` has the numbers of those."""
         return self.wide('if mkdir "$ROOM/first" 2>/dev/null; then exec "$WIDE" "$@"; fi\necho $$ >>"$ROOM/pids"\nexec sleep 600')
 
+    def interrupt_command(self, *words: str, stuck: int = 1) -> None:
+        """Interrupts a command as `interrupt` does; its status says so."""
+        code = f"import sys\nfrom bsonfind.__main__ import main\nsys.exit(main({list(words)!r}))"
+        self.assertEqual(self.interrupt(code, stuck), 130)
+
+    def want_broken_pipe(self, *words: str) -> None:
+        """A command whose output no one reads says so."""
+        with subprocess.Popen([*COMMAND, *words], env=environment(), stdout=subprocess.PIPE, stderr=subprocess.PIPE, text=True) as run:
+            run.stdout.close()
+            self.assertEqual(run.stderr.read(), "bsonkit: cannot write: Broken pipe\n")
+            self.assertEqual(run.wait(), 2)
+
     def interrupt(self, code: str, stuck: int) -> int:
         """Interrupts Python alone once so many programs are stuck below it, and gives its status; none of them may be left."""
         code = f"import signal\nsignal.signal(signal.SIGINT, signal.default_int_handler)\n{code}"
@@ -109,9 +123,27 @@ def environment() -> dict:
 
 def run_package(*words: str, stdout: object = subprocess.PIPE, input: str = "", **how: object) -> "subprocess.CompletedProcess[str]":
     """A run of `python3 -m bsonfind`, with this standard input."""
-    command = [sys.executable, "-m", "bsonfind", "--program", PROGRAM, *words]
     how = {"env": environment(), "stdout": stdout, "stderr": subprocess.PIPE, "text": True, "timeout": PATIENCE, "input": input, **how}
-    return subprocess.run(command, **how)
+    return subprocess.run([*COMMAND, *words], **how)
+
+
+def run_of_bytes(*words: object, stdin: bytes = b"") -> Tuple[int, bytes, str]:
+    """The status of `python3 -m bsonfind`, the bytes of standard output and what standard error says."""
+    run = subprocess.run([*COMMAND, *words], env=environment(), input=stdin, capture_output=True, timeout=PATIENCE)
+    return run.returncode, run.stdout, run.stderr.decode()
+
+
+def run_on_terminal(*words: str, program: str = PROGRAM, streams: Iterable[str] = ("stderr",)) -> Tuple["subprocess.CompletedProcess[bytes]", bytes]:
+    """A run of `python3 -m bsonfind` of which some streams are a terminal, and what was printed there."""
+    ours, theirs = os.openpty()
+    with os.fdopen(ours, "rb", buffering=0) as terminal, os.fdopen(theirs, "wb", buffering=0) as stream:
+        how = {"stdout": subprocess.PIPE, "stderr": subprocess.PIPE, **dict.fromkeys(streams, stream)}
+        run = subprocess.run([*COMMAND[:-1], program, *words], env=environment(), **how)
+        stream.write(b"\0")
+        printed = b""
+        while not printed.endswith(b"\0"):
+            printed += terminal.read(4096)
+        return run, printed[:-1]
 
 
 def packed(lines: Iterable[str]) -> bytes:

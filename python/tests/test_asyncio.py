@@ -21,7 +21,7 @@ from bsonfind import (
     TimedOutError,
     find,
 )
-from bsonfind._ask import steps as _steps
+from bsonfind._ask import readings as _readings
 
 from .support import DAMAGED, PEOPLE, PEOPLE_LINES, PROGRAM, SHOP, SHOP_LINES, Room, packed
 
@@ -148,7 +148,7 @@ class AsyncSessions(Room, unittest.IsolatedAsyncioTestCase):
         async with AsyncSession(PEOPLE, PROGRAM) as session:
             cursor = session.find(batch_size=40, decode="bytes")
             found = [await cursor.__anext__() for _ in range(40)]
-            with mock.patch("bsonfind._ask.steps.read_batch", side_effect=RuntimeError), self.assertRaises(RuntimeError):
+            with mock.patch("bsonfind._ask.readings.read_batch", side_effect=RuntimeError), self.assertRaises(RuntimeError):
                 await cursor.__anext__()
             with self.assertRaises(CursorStateError):
                 await cursor.__anext__()
@@ -157,7 +157,7 @@ class AsyncSessions(Room, unittest.IsolatedAsyncioTestCase):
 
     async def test_bytes_of_a_batch(self) -> None:
         dump = self.file(packed(f'{{"_id":{number},"a":"{"x" * 3000}"}}' for number in range(40)))
-        with mock.patch.object(_steps, "MOST_BYTES", 10_000):
+        with mock.patch.object(_readings, "MOST_BYTES", 10_000):
             async with AsyncSession(dump, PROGRAM) as session:
                 found = [json.loads(it)["_id"] async for it in session.find(decode="bytes")]
         self.assertEqual(found, [{"$numberInt": str(number)} for number in range(40)])

@@ -17,7 +17,9 @@ from bsonfind._backup.audit import audit
 from bsonfind._command.console import progress_of
 
 from .archives import archive
-from .support import DAMAGED, DOUBLE, PATIENCE, PEOPLE, PROGRAM, ROOT, SHOP, Room, environment, run_package
+from .support import (
+    COMMAND, DAMAGED, DOUBLE, PATIENCE, PEOPLE, PROGRAM, ROOT, SHOP, Room, environment, run_on_terminal, run_package,
+)  # fmt: skip
 
 LOG = """\
 2026-11-25T10:00:00.000+0000\twriting shop.orders to backup/shop/orders.bson
@@ -292,7 +294,7 @@ class Audits(Room):
 
     def command(self, *words: object) -> list:
         """The command line of an audit."""
-        return [sys.executable, "-m", "bsonfind", "--program", PROGRAM, "audit", *words]
+        return [*COMMAND, "audit", *words]
 
     def test_what_is_not_seen_below_a_directory(self) -> None:
         """Is reported, each by its name, and nothing is good that was not seen."""
@@ -586,12 +588,7 @@ class Audits(Room):
         self.assertEqual(run.stderr, "bsonkit: cannot start no-such-program: No such file or directory\n")
 
     def test_progress_on_a_terminal(self) -> None:
-        ours, theirs = os.openpty()
-        command = [sys.executable, "-m", "bsonfind", "--program", PROGRAM, "audit", self.backup]
-        with os.fdopen(ours, "rb", buffering=0) as terminal:
-            run = subprocess.run(command, env=environment(), stdout=subprocess.PIPE, stderr=theirs)
-            os.close(theirs)
-            shown = terminal.read(4096)
+        run, shown = run_on_terminal("audit", self.backup)
         self.assertEqual(run.stdout.count(b"\n"), 5)
         self.assertIn(b"1 of 2 files", shown)
         self.assertTrue(shown.endswith(b"\r\x1b[K"), shown)
@@ -644,15 +641,10 @@ with mock.patch("bsonfind._backup.audit.audit_dumps", side_effect=ZeroDivisionEr
                 self.assertEqual((run.returncode, run.stderr), (2, "bsonkit: cannot write: No space left on device\n"))
 
     def test_output_that_no_one_reads(self) -> None:
-        command = [sys.executable, "-m", "bsonfind", "--program", PROGRAM, "audit", self.backup]
-        with subprocess.Popen(command, env=environment(), stdout=subprocess.PIPE, stderr=subprocess.PIPE, text=True) as run:
-            run.stdout.close()
-            self.assertEqual(run.stderr.read(), "bsonkit: cannot write: Broken pipe\n")
-            self.assertEqual(run.wait(), 2)
+        self.want_broken_pipe("audit", self.backup)
 
     def test_interrupt(self) -> None:
         for number in range(4):
             self.collection(PEOPLE.read_bytes(), str(number))
-        words = ["--program", self.stuck(), "audit", self.backup, "--jobs", "3"]
-        self.assertEqual(self.interrupt(f"import sys\nfrom bsonfind.__main__ import main\nsys.exit(main({words!r}))", 3), 130)
+        self.interrupt_command("--program", self.stuck(), "audit", self.backup, "--jobs", "3", stuck=3)
         self.assertEqual(len((self.room / "pids").read_text().split()), 3)

@@ -14,7 +14,10 @@ from bsonfind._command.arguments import parser
 from bsonfind._command.program import _LARGEST, _is_plain
 
 from .archives import archive
-from .support import DAMAGED, DOUBLE, PATIENCE, PEOPLE, PEOPLE_LINES, PROGRAM, ROOT, SHOP, WIDE, Room, environment, run_package, wait_for
+from .support import (
+    COMMAND, DAMAGED, DOUBLE, PATIENCE, PEOPLE, PEOPLE_LINES, PROGRAM, ROOT, SHOP, WIDE, Room, environment, run_package,
+    wait_for,
+)  # fmt: skip
 
 FAULT = 'document 500, byte 92733, path "d": bad boolean'
 
@@ -34,7 +37,7 @@ class Packing(Room):
         # By BSON 1.1: a double, and a decimal128 of 150 with the exponent -2.
         wanted = bytes.fromhex("10000000 0161 00 000000000000f83f 00") + bytes.fromhex("18000000 1361 00 96000000000000000000000000003c30 00")
         for word, sent in ((str(self.file(lines, "lines")), b""), ("-", lines)):
-            run = subprocess.run([sys.executable, "-m", "bsonfind", "--program", PROGRAM, "pack", word], env=environment(), input=sent, capture_output=True)
+            run = subprocess.run([*COMMAND, "pack", word], env=environment(), input=sent, capture_output=True)
             self.assertEqual((run.returncode, run.stdout, run.stderr), (0, wanted, b"2 objects packed\n"))
 
     def test_bad_and_missing(self) -> None:
@@ -207,7 +210,7 @@ class Becoming(Room):
         """It never stands for standard input."""
         whole = self.file(archive([("club", "people", PEOPLE.read_bytes())]), "-")
         run = subprocess.run(
-            [sys.executable, "-m", "bsonfind", "--program", PROGRAM, "dump", "-"],
+            [*COMMAND, "dump", "-"],
             env=environment(), cwd=self.room, input=DOUBLE, stdout=subprocess.PIPE, stderr=subprocess.PIPE,
         )  # fmt: skip
         self.assertEqual((run.returncode, run.stdout, run.stderr), (0, b'{"d":{"$numberDouble":"1.0"}}\n', b"1 objects found\n"))
@@ -299,7 +302,7 @@ class Streams(Room):
         path = self.file(gzip.compress(PEOPLE.read_bytes()), "dump.bson.gz")
         with open("/dev/full", "wb") as full:
             for words, status in ((("audit", str(path)), 0), (("compare", str(path), str(path)), 2), (("audit", "missing"), 2), (("query", str(path)), 2)):
-                command = [sys.executable, "-m", "bsonfind", "--program", PROGRAM, *words]
+                command = [*COMMAND, *words]
                 run = subprocess.run(command, env=environment(), stdout=subprocess.DEVNULL, stderr=full)
                 self.assertEqual(run.returncode, status, words)
 
@@ -309,7 +312,7 @@ class Streams(Room):
         for name in ("/dev/stdout", str(out)):
             with open(out, "wb") as file:
                 run = subprocess.run(
-                    [sys.executable, "-m", "bsonfind", "--program", PROGRAM, "salvage", str(path), "--good", name, "--bad", f"{self.room}/bad"],
+                    [*COMMAND, "salvage", str(path), "--good", name, "--bad", f"{self.room}/bad"],
                     env=environment(), stdout=file, stderr=subprocess.PIPE, text=True,
                 )  # fmt: skip
             self.assertEqual((run.returncode, run.stderr), (2, f"bsonkit: {name}: it is standard output\n"))

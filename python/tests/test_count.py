@@ -21,7 +21,9 @@ from bsonfind._errors import ArgumentError
 
 from .archives import archive
 from .bson import decimal, document, double, field, int32, int64, text
-from .support import DAMAGED, PEOPLE, PEOPLE_LINES, PROGRAM, SHOP, SHOP_LINES, Room, environment, run_package
+from .support import (
+    COMMAND, DAMAGED, PEOPLE, PEOPLE_LINES, PROGRAM, SHOP, SHOP_LINES, Room, environment, run_on_terminal, run_package,
+)  # fmt: skip
 
 NAN, INFINITY = decimal(0)[:15] + b"\x7c", decimal(0)[:15] + b"\x78"
 # A document of each type that is no number, and the text of its value.
@@ -106,7 +108,7 @@ class Counts(Room):
             ([empty], 0),
         ):  # fmt: skip
             self.assertEqual(self.count(*names), [[str(documents)]])
-        command = [sys.executable, "-m", "bsonfind", "--program", PROGRAM, "count", "-", "--by", "age"]
+        command = [*COMMAND, "count", "-", "--by", "age"]
         run = subprocess.run(command, env=environment(), input=PEOPLE.read_bytes(), capture_output=True)
         self.assertEqual(run.stdout.count(b"\n"), len(counted(PEOPLE_LINES, "age")))
 
@@ -376,13 +378,9 @@ class Counts(Room):
 
     def test_terminal(self) -> None:
         """It gets the names of the columns, and after a second a line that is deleted again."""
-        ours, theirs = os.openpty()
         slow = self.wide('case "$1" in check) sleep 2;; esac\nexec "$WIDE" "$@"')
-        command = [sys.executable, "-m", "bsonfind", "--program", slow, "count", str(PEOPLE), "--by", "x", "--sum", "age"]
-        with os.fdopen(ours, "rb", buffering=0) as terminal:
-            run = subprocess.run(command, env=environment(), stdout=theirs, stderr=theirs)
-            os.close(theirs)
-            printed = terminal.read(4096)
+        words = "count", str(PEOPLE), "--by", "x", "--sum", "age"
+        run, printed = run_on_terminal(*words, program=slow, streams=("stdout", "stderr"))
         self.assertEqual(run.returncode, 0)
         self.assertIn(b"92.7 of 92.7 kB", printed)
         ages = sum(int(json.loads(line)["age"]["$numberInt"]) for line in PEOPLE_LINES)
@@ -423,15 +421,10 @@ class Counts(Room):
         self.assertEqual([(row.value, row.documents) for row in count.rows(PROGRAM)], [(MISSING, 11)])
 
     def test_output_that_no_one_reads(self) -> None:
-        command = [sys.executable, "-m", "bsonfind", "--program", PROGRAM, "count", str(PEOPLE), "--by", "_id"]
-        with subprocess.Popen(command, env=environment(), stdout=subprocess.PIPE, stderr=subprocess.PIPE, text=True) as run:
-            run.stdout.close()
-            self.assertEqual(run.stderr.read(), "bsonkit: cannot write: Broken pipe\n")
-            self.assertEqual(run.wait(), 2)
+        self.want_broken_pipe("count", str(PEOPLE), "--by", "_id")
         with open("/dev/full", "wb") as full:
             run = run_package("count", str(PEOPLE), stdout=full)
         self.assertEqual((run.returncode, run.stderr), (2, "bsonkit: cannot write: No space left on device\n"))
 
     def test_interrupt(self) -> None:
-        words = ["--program", self.stuck(), "count", str(PEOPLE), "--by", "age"]
-        self.assertEqual(self.interrupt(f"import sys\nfrom bsonfind.__main__ import main\nsys.exit(main({words!r}))", 1), 130)
+        self.interrupt_command("--program", self.stuck(), "count", str(PEOPLE), "--by", "age")

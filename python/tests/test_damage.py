@@ -9,22 +9,18 @@ from bsonfind._ask.requests import Request
 from bsonfind._backup.backups import Dump
 from bsonfind._backup.query import query_dumps
 
+from .bson import string
 from .support import PROGRAM, Room
 from .goods import array, document, double, embedded, whole
-
-
-def text(name: str, value: bytes) -> bytes:
-    """A text."""
-    return b"\x02" + name.encode() + b"\0" + (len(value) + 1).to_bytes(4, "little") + value + b"\0"
 
 
 # The document that is asked for, and documents that are damaged beside it: last values of many types, short and with lengths.
 SOUND = document(double("a", 9.5))
 BESIDE = [
-    document(double("a", 1.5), text("t", b"pen")),
+    document(double("a", 1.5), string("t", "pen")),
     document(b"\x07a\0" + b"\1" * 12),
     document(double("a", 2.5), b"\x05b\0\3\0\0\0\0abc"),
-    document(embedded("c", double("a", 0.5), text("t", b"x"))),
+    document(embedded("c", double("a", 0.5), string("t", "x"))),
     document(double("a", 2.5), array("l", double("0", 1.5), whole("1", 7))),
     document(double("a", 4.5), b"\x0br\0x\0i\0"),
     document(double("a", 1.5), b"\x0cp\0\2\0\0\0q\0" + b"\7" * 12),

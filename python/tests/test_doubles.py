@@ -20,9 +20,9 @@ from bsonfind import (
     SessionEndedError,
     find,
 )
-from bsonfind._ask import steps as _steps
+from bsonfind._ask import readings as _readings
 
-from .goods import FIRST, GOODS, MIXED, decimal, document, double, whole
+from .goods import FIRST, GOODS, MIXED, QUESTIONS, decimal, document, double, whole
 from .support import DAMAGED, PEOPLE, PEOPLE_LINES, PROGRAM, Room
 
 NAN = {"$numberDouble": "NaN"}
@@ -40,32 +40,9 @@ class Goods(Room):
 class Finds(Goods):
     def test_queries_and_sorts(self) -> None:
         """By a scan and by an index."""
-        cases = (
-            ({"price": {"$gt": 9.25}}, None, [0, 2, 3]),
-            ({"price": {"$gte": 9, "$lt": 10.25}}, None, [0, 1, 3]),
-            ({"price": 9.0}, None, [1]),
-            ({"price": {"$gte": 9, "$lt": float("inf")}}, None, [0, 1, 2, 3]),
-            ({"price": {"$gt": float("-inf")}}, None, [0, 1, 2, 3, 4]),
-            ({"price": {"$in": [float("inf"), float("nan")]}}, None, []),
-            ({"price": 0}, None, [4]),
-            ({"price": {"$in": [10.25, 30.0, 7]}}, None, [2, 3]),
-            ({"price": {"$elemMatch": {"$lt": 2, "$gt": 1.25}}}, None, [3]),
-            ({"price.0": 1.5}, None, [3]),
-            ({"price": {"$size": 2}}, None, [3]),
-            ({"cost": {"$numberDecimal": "19.990"}}, None, [0]),
-            # The double 19.99 is a bit less than the decimal128.
-            ({"cost": {"$gt": 19.99}}, None, [0, 3, 4]),
-            ({"cost": {"$gte": 19, "$lte": 19.99}}, None, [1, 2]),
-            ({"cost": Decimal("19")}, None, [1, 2]),
-            ({"cost": 50.0}, None, [3, 4]),
-            ({"_id": {"$gt": 3.5}}, None, [4, 5]),
-            ({"price": {"$exists": True}}, [("price", 1)], [4, 3, 1, 0, 2]),
-            ({}, [("price", -1), ("_id", -1)], [3, 2, 0, 1, 4, 5]),
-            ({"cost": {"$type": "number"}}, {"cost": 1}, [1, 2, 0, 3, 4]),
-        )
         with Session(self.path, PROGRAM) as session:
             session.create_index("price")
-            for filter, sort, wanted in cases:
+            for filter, sort, wanted in QUESTIONS:
                 for hint in (None, {"$natural": 1}, "price"):
                     found = session.find(filter, sort=sort, hint=hint, decode="bson", batch_size=2)
                     self.assertEqual([GOODS.index(it) for it in found], wanted, (filter, hint))
@@ -204,13 +181,13 @@ class Finds(Goods):
         sizes = [10] * 60 + [3000] * 30 + [20_000] * 3 + [10] * 60
         documents = [document(whole("_id", it), b"\x05a\0" + size.to_bytes(4, "little") + bytes(size + 1)) for it, size in enumerate(sizes)]
         path, held = self.file(b"".join(documents)), []
-        texts = _steps.Texts
+        texts = _readings.Texts
 
         def watched(found: List[bytes], document_of: object) -> object:
             held.append((sum(map(len, found)), len(found)))
             return texts(found, document_of)
 
-        with mock.patch.object(_steps, "MOST_BYTES", 10_000), mock.patch.object(_steps, "Texts", watched):
+        with mock.patch.object(_readings, "MOST_BYTES", 10_000), mock.patch.object(_readings, "Texts", watched):
             with Session(path, PROGRAM) as session:
                 self.assertEqual(list(session.find(decode="bson", batch_size=50)), documents)
                 self.assertEqual(list(session.find(sort={"_id": -1}, decode="bson", batch_size=50)), documents[::-1])

@@ -28,8 +28,8 @@ from bsonfind import (
 from bsonfind._ask.requests import LONGEST_ARGUMENT
 
 from .archives import archive
-from .goods import FIRST, GOODS, MIXED, array, decimal, document, double, embedded, whole
-from .support import DAMAGED, PATIENCE, PEOPLE, PEOPLE_LINES, PROGRAM, Room, environment, run_package
+from .goods import FIRST, GOODS, MIXED, QUESTIONS, array, decimal, document, double, embedded, whole
+from .support import DAMAGED, PATIENCE, PEOPLE, PEOPLE_LINES, PROGRAM, Room, environment, run_of_bytes, run_package
 
 NAN = {"$numberDouble": "NaN"}
 NOT_TOLD = "the types of numbers are not told apart here"
@@ -61,30 +61,7 @@ class Dumps(Room):
 class Goods(Dumps):
     def test_queries_and_sorts(self) -> None:
         """By a scan and by an index, as lines and as they are; each is counted."""
-        cases = (
-            ({"price": {"$gt": 9.25}}, None, [0, 2, 3]),
-            ({"price": {"$gte": 9, "$lt": 10.25}}, None, [0, 1, 3]),
-            ({"price": 9.0}, None, [1]),
-            ({"price": {"$gte": 9, "$lt": float("inf")}}, None, [0, 1, 2, 3]),
-            ({"price": {"$gt": float("-inf")}}, None, [0, 1, 2, 3, 4]),
-            ({"price": {"$in": [float("inf"), float("nan")]}}, None, []),
-            ({"price": 0}, None, [4]),
-            ({"price": {"$in": [10.25, 30.0, 7]}}, None, [2, 3]),
-            ({"price": {"$elemMatch": {"$lt": 2, "$gt": 1.25}}}, None, [3]),
-            ({"price.0": 1.5}, None, [3]),
-            ({"price": {"$size": 2}}, None, [3]),
-            ({"cost": {"$numberDecimal": "19.990"}}, None, [0]),
-            ({"cost": Decimal("19")}, None, [1, 2]),
-            ({"cost": {"$lt": 19.99}}, None, [1, 2]),
-            ({"cost": {"$lte": Decimal("19.99")}}, None, [0, 1, 2]),
-            ({"cost": 50.0}, None, [3, 4]),
-            ({"_id": {"$gt": 3.5}}, None, [4, 5]),
-            ({"~n": {"$exists": True}}, None, []),
-            ({"price": {"$exists": True}}, [("price", 1)], [4, 3, 1, 0, 2]),
-            ({}, [("price", -1), ("_id", -1)], [3, 2, 0, 1, 4, 5]),
-            ({"cost": {"$type": "number"}}, {"cost": 1}, [1, 2, 0, 3, 4]),
-        )
-        for filter, sort, wanted in cases:
+        for filter, sort, wanted in QUESTIONS:
             self.assertEqual(self.ids(filter, sort=sort), wanted, filter)
             self.assertEqual([it["_id"] for it in find(self.path, filter, sort=sort, index="price", program=PROGRAM)], wanted, filter)
             self.assertEqual(count_documents(self.path, filter, program=PROGRAM), len(wanted), filter)
@@ -374,9 +351,7 @@ class Damage(Room):
 class Commands(Dumps):
     def run_find(self, *words: object, stdin: bytes = b"") -> tuple:
         """The status, standard output and standard error of `find`."""
-        command = [sys.executable, "-m", "bsonfind", "--program", PROGRAM, "find", *words]
-        run = subprocess.run(command, env=environment(), input=stdin, stdout=subprocess.PIPE, stderr=subprocess.PIPE, timeout=PATIENCE)
-        return run.returncode, run.stdout, run.stderr.decode()
+        return run_of_bytes("find", *words, stdin=stdin)
 
     def test_find(self) -> None:
         """What is printed is what the program prints: over a dump without doubles what `bsonfind` does."""

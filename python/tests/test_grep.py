@@ -1,5 +1,6 @@
 """Tests of the command `grep`."""
 
+import fcntl
 import gzip
 import json
 import os
@@ -7,6 +8,7 @@ import re
 import signal
 import subprocess
 import sys
+import termios
 import threading
 import time
 from typing import List, Sequence
@@ -20,8 +22,10 @@ from bsonfind._backup.search import Search, Wanted, literal_in
 from bsonfind._backup.watching import Unwatched
 
 from .archives import archive
-from .bson import document, field, int32, text
-from .support import DAMAGED, PATIENCE, PEOPLE, PROGRAM, Room, environment, run_package, wait_for
+from .bson import document, field, int32, string, text
+from .support import (
+    COMMAND, DAMAGED, PATIENCE, PEOPLE, PROGRAM, Room, environment, run_of_bytes, run_on_terminal, run_package, wait_for,
+)  # fmt: skip
 
 OID = "07bd617e2da5422a3c4466c9"
 UID = "00112233-4455-6677-8899-aabbccddeeff"
@@ -39,11 +43,6 @@ def one(number: int, *fields: bytes) -> bytes:
 def binary(name: str, subtype: int, data: bytes) -> bytes:
     """A field of binary data."""
     return field(0x05, name, int32(len(data)) + bytes([subtype]) + data)
-
-
-def string(name: str, value: str) -> bytes:
-    """A field that is a text."""
-    return field(0x02, name, text(value))
 
 
 def scoped(name: str, code: str, scope: bytes) -> bytes:
@@ -87,12 +86,11 @@ FOUND = [
 class Grep(Room):
     def grep(self, *words: object, status: int = 0, told: Sequence[str] = (), note: str = "", stdin: bytes = b"") -> List[List[str]]:
         """The cells of the lines that it prints; the last line of standard error is a note."""
-        command = [sys.executable, "-m", "bsonfind", "--program", PROGRAM, "grep", *map(str, words)]
-        run = subprocess.run(command, env=environment(), input=stdin, capture_output=True, timeout=PATIENCE)
-        *lines, last = run.stderr.decode().splitlines() or [""]
-        self.assertEqual((run.returncode, lines), (status, [f"bsonkit: {it}" for it in told]))
+        ended, printed, said = run_of_bytes("grep", *map(str, words), stdin=stdin)
+        *lines, last = said.splitlines() or [""]
+        self.assertEqual((ended, lines), (status, [f"bsonkit: {it}" for it in told]))
         self.assertIn(note, last)
-        return [line.split("\t") for line in run.stdout.decode().splitlines()]
+        return [line.split("\t") for line in printed.decode().splitlines()]
 
     def rows(self, path: object, found: Sequence[Sequence[str]] = FOUND) -> List[List[str]]:
         """The lines for the fields of a file."""
@@ -226,7 +224,7 @@ class Grep(Room):
             run = run_package("grep", "ada", path, stdout=full)
         self.assertEqual((run.returncode, run.stderr), (2, "bsonkit: cannot write: No space left on device\n"))
         read, write = os.pipe()
-        command = [sys.executable, "-m", "bsonfind", "--program", PROGRAM, "grep", "ada", path]
+        command = [*COMMAND, "grep", "ada", path]
         with subprocess.Popen(command, env=environment(), stdout=write, stderr=subprocess.PIPE, start_new_session=True) as run:
             os.close(write)
             os.read(read, 100)
@@ -237,16 +235,16 @@ class Grep(Room):
 
     def test_interrupts(self) -> None:
         """Where the check is stuck, where a pattern is, and where a pipe gives no more."""
-        words = ["--program", self.stuck(), "grep", "ada", str(self.file(TEXTS[0], "small.bson"))]
-        self.assertEqual(self.interrupt(f"import sys\nfrom bsonfind.__main__ import main\nsys.exit(main({words!r}))", 1), 130)
+        self.interrupt_command("--program", self.stuck(), "grep", "ada", str(self.file(TEXTS[0], "small.bson")))
         slow = str(self.file(one(1, string("y", "a" * 60 + "b"))))
         for name, first in ((slow, b""), ("-", TEXTS[0]), ("-", archive([("club", "people", TEXTS[0])])[:-40])):
-            command = [sys.executable, "-m", "bsonfind", "--program", PROGRAM, "grep", "--regex", "^(a+)+$", "--timeout", "600", name]
+            command = [*COMMAND, "grep", "--regex", "^(a+)+$", "--timeout", "600", name]
             read, write = os.pipe()
             os.write(write, first)
             with subprocess.Popen(command, env=environment(), stdin=read, stdout=subprocess.PIPE, stderr=subprocess.PIPE, start_new_session=True) as run:
                 os.close(read)
-                wait_for(lambda: len(os.listdir(f"/proc/{run.pid}/task")) > 1)  # noqa: B023 - it reads by now
+                # It has read all that was sent, or begun to search.
+                wait_for(lambda: not unread(write) and (first or len(os.listdir(f"/proc/{run.pid}/task")) > 1))  # noqa: B023
                 time.sleep(1)
                 run.send_signal(signal.SIGINT)
                 self.assertEqual((run.communicate(timeout=PATIENCE), run.returncode), ((b"", b""), 130), name)
@@ -258,7 +256,7 @@ class Grep(Room):
         one_name, other = self.file(TEXTS[0], "a\tb.bson"), self.file(one(1, string("x", "-ada")), os.fsdecode(b"\xff.bson"))
         run = run_package("grep", "ada@", str(one_name), stdout=subprocess.PIPE)
         self.assertEqual(run.stdout.split("\t")[0], f"{self.room}/a\\x09b.bson")
-        command = [sys.executable, "-m", "bsonfind", "--program", PROGRAM, "grep", "--", "-ada", str(other)]
+        command = [*COMMAND, "grep", "--", "-ada", str(other)]
         found = subprocess.run(command, env=environment(), stdout=subprocess.PIPE, stderr=subprocess.PIPE)
         self.assertEqual(found.stdout.split(b"\t")[0], os.fsencode(other))
 
@@ -266,13 +264,8 @@ class Grep(Room):
         """There a header comes first, unless nothing is found."""
         path = str(self.file(TEXTS[0]))
         for word, header in (("ada", "file\t_id\tpath\tvalue"), ("ad@", None)):
-            ours, theirs = os.openpty()
-            with os.fdopen(ours, "rb", buffering=0) as terminal:
-                run_package("grep", word, path, stdout=theirs)
-                os.write(theirs, b".")
-                os.close(theirs)
-                lines = terminal.read(4096).decode().splitlines()
-            self.assertEqual(lines[0] if len(lines) > 1 else None, header)
+            _, printed = run_on_terminal("grep", word, path, streams=["stdout"])
+            self.assertEqual(next(iter(printed.decode().splitlines()), None), header)
 
 
 class Searching(Room):
@@ -364,6 +357,11 @@ class Searching(Room):
         thread.start()
         thread.join()
         self.assertEqual(found, [1])
+
+
+def unread(pipe: int) -> int:
+    """How many bytes of a pipe were not read yet."""
+    return int.from_bytes(fcntl.ioctl(pipe, termios.FIONREAD, bytes(4)), sys.byteorder)
 
 
 def is_group(number: int) -> bool:

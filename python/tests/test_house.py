@@ -17,20 +17,22 @@ MOST_LINES = 350
 MOST_IMPORTED, MOST_OWN = 45, 12
 # What reads what a program printed.
 READERS = {
-    "lines_of", "faults_of", "finish", "finish_check", "finish_dump", "counted", "read_reply", "read_batch", "documents_in", "raw_decode",
+    "lines_of", "faults_of", "finish", "finish_check", "finish_dump", "counted", "read_reply", "read_batch", "documents_in", "document_at",
     "numbers_in", "error_of", "error_line", "read_fault", "messages", "lines_of_documents", "refuse_other_count",
 }  # fmt: skip
 # Each place that calls one of them, and what it does with what was printed. None of them decides what is a fault, or what matches.
 PLACES = {
-    "_ask/decoding.batches_by": "cuts a batch into its documents",
+    "_ask/connections.Connection.fields": "reads a reply",
+    "_ask/decoding.Decoding.batch": "cuts a batch into its documents",
+    "_ask/decoding.Parsed.give": "reads a document",
     "_ask/lines.Lines._by_run": "passes lines or documents on, and the end and the token; compares the count with that of what was printed",
     "_ask/lines.Lines.count": "takes the count, which is printed twice, and compares these",
     "_ask/lines.counted": "reads the line of the count; compares it with that of what was printed",
     "_ask/merge._check": "moves the places of faults to those in the whole file",
     "_ask/replies.read_batch": "reads a reply",
-    "_ask/steps.Reading._read": "reads a reply",
-    "_ask/steps.Reading.token": "reads a reply",
-    "_ask/steps.ask": "reads a reply",
+    "_ask/replies.documents_in": "cuts a batch into its documents",
+    "_ask/readings.Reading._read": "reads a reply",
+    "_ask/readings.Reading.token": "reads a reply",
     "_backup/beginnings.Check.faults": "compares the count with that of what was given",
     "_backup/ids._Finding.pass_on": "passes lines on; takes a document that dump refuses for one with a fault",
     "_backup/query._answer": "passes lines on",
@@ -61,7 +63,8 @@ DECIDES = {
     "_backup/audit._Checker._check_documents": "counts the faults of each kind",
     "_backup/beginnings.Beginnings._chain": "guesses where documents go on, of which check says whether they have a fault",
     "_backup/compare._by_key": "documents are the same if their bytes are: that is what the command says",
-    "_backup/compare._compare_sorted": "counts them",
+    "_backup/compare.compare": "counts them",
+    "_backup/compare._differences": "the same",
     "_backup/compare._one_alone": "counts the documents of a dump that only one directory has",
     "_backup/count.Count._take_by": "counts documents by the bytes of their values; which documents match is the program's answer",
     "_backup/count.Count.merge": "adds the counts of documents that are not the same",
@@ -71,7 +74,7 @@ DECIDES = {
     "_backup/search.Search._matches": "a text is found where its bytes, or a pattern, are in a value: that is what the command says",
     "_backup/search.Search._matches_value": "the same of an id and of a UUID",
     "_backup/reports.Report.compare": "compares a count with that in the log",
-    "_backup/schema._Looking.look": "counts the types of values, and keeps the least and the greatest: that is what the command says",
+    "_backup/schema.Looked.look": "counts the types of values, and keeps the least and the greatest: that is what the command says",
     "_backup/sums.Sum.add": "adds numbers, exactly: that is what the command says",
     "_backup/texts.order_of": "sorts rows of equal counts, and the values of a schema",
     "_dumps/framing.ends_in": "the lengths of documents, before a run reads them",
@@ -82,7 +85,7 @@ DECIDES = {
     ),
     **dict.fromkeys(
         ["_backup/schema.Field.merge", "_backup/schema.Field.fold", "_backup/schema.Schema._merge", "_backup/schema._rows",
-         "_backup/schema._Looking._slot", "_command/counting._shares"],
+         "_backup/schema.Looked._slot", "_command/counting._shares"],
         "adds what was found in some documents, counts paths, and prints the most frequent types first: that is what the command says",
     ),
     **dict.fromkeys(
@@ -95,7 +98,7 @@ DECIDES = {
     ),
     **dict.fromkeys(
         ["_backup/beginnings.Beginnings._undamaged", "_backup/salvage.Salvaging._check_ahead", "_backup/salvage.Salvaged.bytes_left_out",
-         "_ask/steps.Reading._made", "_dumps/originals.Original.documents"],
+         "_ask/readings.Reading._made", "_dumps/originals.Original.documents"],
         "bytes: how many are held in memory, or were left out",
     ),
     **dict.fromkeys(
@@ -103,10 +106,11 @@ DECIDES = {
         "how many bytes there are to read, for the line of progress",
     ),
     **dict.fromkeys(
-        ["_backup/audit._check_all", "_backup/audit._Checker._check_archive", "_backup/backups._Directory.__init__",
+        ["_backup/audit._check_all", "_backup/audit._Checker._check_archive", "_backup/backups._found_in",
          "_backup/backups.metadata_below", "_backup/compare.pairs_of"],
         "puts files or collections in the order of their names or sizes",
     ),
+    "_command/arguments._Parser.parse_known_args": "names the first option that is given twice",
     "_command/commands._run_unpack": "adds up the documents of collections that were written",
     "_ask/lines.Lines.count": "adds up the counts of inputs of one dump",
     "__init__.__dir__": "puts the names of the package in order",
@@ -125,7 +129,6 @@ WIDE = {
     "_ask/questions.Questions.__init__": "closes what was opened, and raises it",
     "_ask/questions.Questions._first": "closes the file, and raises it",
     "_backup/audit._check_all": "ends all runs, and raises it",
-    "_backup/grep._Reading.run": "hands it to whoever reads what was found, where it is raised",
     "_command/shell.run_command": "reports it, with a status that is not 0",
     "_dumps/originals.Spool.original": "closes the file, and raises it",
     "_run/processes.Feeder.run": "ends the run, and is raised where that is waited for",

@@ -4,12 +4,11 @@ import gzip
 import json
 import os
 import subprocess
-import sys
 from typing import Any, Dict, List
 
 from .archives import archive, listed
 from .bson import document, field, int32
-from .support import DAMAGED, DOUBLE, PROGRAM, Room, environment, run_package
+from .support import DAMAGED, DOUBLE, PROGRAM, Room, run_on_terminal, run_package
 
 # Two documents of 14 and 18 bytes, and the header of the table.
 ONE, TWO = document(field(0x10, "_id", int32(1))), document(field(0x12, "_id", (2).to_bytes(8, "little")))
@@ -208,13 +207,9 @@ class Info(Room):
         for program, is_shown in ((PROGRAM, False), (slow, True)):
             shown: Dict[str, Any] = {}
             for stream in ("stdout", "stderr"):
-                ours, theirs = os.openpty()
-                with os.fdopen(ours, "rb", buffering=0) as terminal:
-                    streams = {"stdout": subprocess.PIPE, "stderr": subprocess.PIPE, stream: theirs}
-                    run = subprocess.run([sys.executable, "-m", "bsonfind", "--program", program, "info", path], env=environment(), **streams)
-                    os.close(theirs)
-                    shown[stream] = terminal.read(4096).decode()
-                    self.assertEqual(run.returncode, 0)
+                run, printed = run_on_terminal("info", path, program=program, streams=[stream])
+                shown[stream] = printed.decode()
+                self.assertEqual(run.returncode, 0)
             self.assertEqual(shown["stdout"].splitlines(), [HEADER, "d\tx\tcollection\t1\t14\t14\t\t"])
             if is_shown:
                 self.assertIn("14 of 14 bytes", shown["stderr"])
@@ -231,5 +226,4 @@ class Info(Room):
         self.assertEqual((run.returncode, run.stderr), (2, "bsonkit: cannot write: Broken pipe\n"))
 
     def test_interrupt(self) -> None:
-        words = ["--program", self.stuck(), "info", str(self.file(ONE))]
-        self.assertEqual(self.interrupt(f"import sys\nfrom bsonfind.__main__ import main\nsys.exit(main({words!r}))", 1), 130)
+        self.interrupt_command("--program", self.stuck(), "info", str(self.file(ONE)))

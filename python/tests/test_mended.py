@@ -4,7 +4,6 @@ import gzip
 import json
 import os
 import subprocess
-import sys
 import tempfile
 from decimal import Decimal
 from types import MappingProxyType
@@ -33,7 +32,9 @@ from bsonfind._errors import ProgramError
 
 from .archives import archive
 from .bson import document, field
-from .support import DAMAGED, PEOPLE, PEOPLE_LINES, PROGRAM, ROOT, SHOP, SHOP_LINES, Room, environment, packed, run_package
+from .support import (
+    COMMAND, DAMAGED, PEOPLE, PEOPLE_LINES, PROGRAM, ROOT, SHOP, SHOP_LINES, Room, environment, packed, run_package,
+)  # fmt: skip
 
 ARCHIVE = ROOT / "examples/backup.archive"
 
@@ -173,7 +174,7 @@ class Files(Room):
         read, write = os.pipe()
         os.close(read)
         run = subprocess.run(
-            [sys.executable, "-m", "bsonfind", "--program", PROGRAM, "salvage", str(path), "--good", f"{self.room}/good", "--bad", f"{self.room}/bad"],
+            [*COMMAND, "salvage", str(path), "--good", f"{self.room}/good", "--bad", f"{self.room}/bad"],
             env=environment(), stdout=write, stderr=subprocess.PIPE,
         )  # fmt: skip
         os.close(write)
@@ -362,7 +363,7 @@ class Commands(Room):
         """By --bson, also doubles."""
         path = self.file(PEOPLE.read_bytes() + document(field(1, "_id", b"\0\0\0\0\0\0\xf8\x3f")))
         ids = self.file(b"7\n1.5\n1000\n", "ids")
-        command = [sys.executable, "-m", "bsonfind", "--program", PROGRAM, "ids", str(path), "--ids", str(ids), "--bson"]
+        command = [*COMMAND, "ids", str(path), "--ids", str(ids), "--bson"]
         run = subprocess.run(command, env=environment(), stdout=subprocess.PIPE, stderr=subprocess.PIPE)
         wanted = subprocess.run([PROGRAM, "pack", "-"], input=PEOPLE_LINES[7] + b"\n", stdout=subprocess.PIPE, stderr=subprocess.PIPE).stdout
         self.assertEqual((run.returncode, run.stdout), (1, wanted + path.read_bytes()[len(PEOPLE.read_bytes()) :]))

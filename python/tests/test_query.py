@@ -5,7 +5,6 @@ import json
 import os
 import struct
 import subprocess
-import sys
 import threading
 from typing import List
 from unittest import mock
@@ -16,7 +15,7 @@ from bsonfind._backup.ids import Ids, find_ids
 from bsonfind._backup.query import query_dumps
 
 from .bson import document, field, text
-from .support import DAMAGED, PEOPLE, PEOPLE_LINES, PROGRAM, SHOP, SHOP_LINES, Room, environment, packed, run_package
+from .support import COMMAND, DAMAGED, PEOPLE, PEOPLE_LINES, PROGRAM, SHOP, SHOP_LINES, Room, environment, packed, run_package
 
 OLD = '{"age":{"$gte":90}}'
 OLD_LINES = [line.decode() for line in PEOPLE_LINES if int(json.loads(line)["age"]["$numberInt"]) >= 90]
@@ -178,7 +177,7 @@ class AsksForIds(Room):
         path = self.file(PEOPLE.read_bytes() + bad)
         for words in ((), ("--bson",)):
             self.list = self.file(b"7\n", "ids")
-            command = [sys.executable, "-m", "bsonfind", "--program", PROGRAM, "ids", str(path), "--ids", str(self.list), *words]
+            command = [*COMMAND, "ids", str(path), "--ids", str(self.list), *words]
             run = subprocess.run(command, env=environment(), capture_output=True)
             fault = f'document 500, byte {path.stat().st_size - 2}, path "d": bad boolean'
             self.assertEqual((run.returncode, run.stderr.decode()), (2, f"bsonkit: {path}: {fault}\n"))

@@ -11,7 +11,7 @@ from unittest import mock
 
 from bsonfind._backup.salvage import LeftOut, Salvaged, salvage
 
-from .support import DAMAGED, DOUBLE, PEOPLE, PROGRAM, SHOP, Room, environment, run_package, wait_for
+from .support import COMMAND, DAMAGED, DOUBLE, PEOPLE, PROGRAM, SHOP, Room, environment, run_on_terminal, run_package, wait_for
 
 
 def ends_of(data: bytes) -> List[int]:
@@ -315,7 +315,7 @@ class BadInput(Room):
         for name in (str(path), str(self.room / "link")):
             for words in (("--good", name, "--bad", other), ("--good", other, "--bad", name)):
                 for dump in ("-", "/dev/stdin"):
-                    command = [sys.executable, "-m", "bsonfind", "--program", PROGRAM, "salvage", dump, *words]
+                    command = [*COMMAND, "salvage", dump, *words]
                     with open(path, "rb") as file:
                         ran = subprocess.run(command, env=environment(), stdin=file, capture_output=True, text=True)
                     self.assertEqual((ran.returncode, ran.stdout, ran.stderr), (2, "", f"bsonkit: {name} is the dump\n"))
@@ -372,13 +372,7 @@ class BadInput(Room):
         path = self.file(PEOPLE.read_bytes())
         wait = 'if [ "$(head -c 4 | wc -c)" = 4 ]; then sleep 1.5; cat >/dev/null; fi'
         slow = self.wide(f'{wait}\nexec "$WIDE" "$@" <"$ROOM/dump.bson"')
-        ours, theirs = os.openpty()
-        words = ["--program", slow, "salvage", str(path), "--good", "/dev/null", "--bad", "/dev/null"]
-        with os.fdopen(ours, "rb", buffering=0) as terminal:
-            command = [sys.executable, "-m", "bsonfind", *words]
-            run = subprocess.run(command, env=environment(), stdout=subprocess.PIPE, stderr=theirs)
-            os.close(theirs)
-            shown = terminal.read(4096)
+        run, shown = run_on_terminal("salvage", str(path), "--good", "/dev/null", "--bad", "/dev/null", program=slow)
         self.assertEqual(run.returncode, 2)
         self.assertIn(b"92.7 of 92.7 kB", shown)
 
@@ -400,5 +394,4 @@ class BadInput(Room):
     def test_interrupt(self) -> None:
         path = str(self.file(PEOPLE.read_bytes()))
         program = self.wide('# also for --version\necho $$ >>"$ROOM/pids"\nexec sleep 600')
-        words = ["--program", program, "salvage", path, "--good", "/dev/null", "--bad", "/dev/null"]
-        self.assertEqual(self.interrupt(f"import sys\nfrom bsonfind.__main__ import main\nsys.exit(main({words!r}))", 1), 130)
+        self.interrupt_command("--program", program, "salvage", path, "--good", "/dev/null", "--bad", "/dev/null")

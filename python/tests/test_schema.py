@@ -5,7 +5,6 @@ import json
 import random
 import struct
 import subprocess
-import sys
 from collections import Counter
 from typing import Any, Dict, Iterator, List, Tuple
 from unittest import mock
@@ -16,7 +15,7 @@ from bsonfind._backup.schema import Schema
 
 from .archives import archive
 from .bson import decimal, document, double, field, int32, int64, text
-from .support import DAMAGED, PEOPLE, PEOPLE_LINES, PROGRAM, SHOP, SHOP_LINES, Room, environment, run_package
+from .support import COMMAND, DAMAGED, PEOPLE, PEOPLE_LINES, SHOP, SHOP_LINES, Room, environment, run_package
 from .test_count import NAN, OTHERS, array, dump
 
 # The type of a value of canonical JSON, by the name of its wrapper.
@@ -218,17 +217,12 @@ class Schemas(Room):
         self.assertEqual([it["path"] for it in self.lines(path)], ["a\tb", "a\tb.c\n", "a\tb."])
         path = self.file(dump(field(0x10, "Größe 東", int32(1))))
         env = {**environment(), "LC_ALL": "C", "PYTHONUTF8": "0"}
-        command = [sys.executable, "-m", "bsonfind", "--program", PROGRAM, "schema", str(path), "--json"]
+        command = [*COMMAND, "schema", str(path), "--json"]
         run = subprocess.run(command, env=env, capture_output=True)
         self.assertEqual(run.stdout.decode(), '{"path":"Größe 東","types":{"int":1},"least":1,"greatest":1,"example":1}\n')
 
     def test_output_that_no_one_reads(self) -> None:
-        command = [sys.executable, "-m", "bsonfind", "--program", PROGRAM, "schema", str(PEOPLE)]
-        with subprocess.Popen(command, env=environment(), stdout=subprocess.PIPE, stderr=subprocess.PIPE, text=True) as run:
-            run.stdout.close()
-            self.assertEqual(run.stderr.read(), "bsonkit: cannot write: Broken pipe\n")
-            self.assertEqual(run.wait(), 2)
+        self.want_broken_pipe("schema", str(PEOPLE))
 
     def test_interrupt(self) -> None:
-        words = ["--program", self.stuck(), "schema", str(PEOPLE)]
-        self.assertEqual(self.interrupt(f"import sys\nfrom bsonfind.__main__ import main\nsys.exit(main({words!r}))", 1), 130)
+        self.interrupt_command("--program", self.stuck(), "schema", str(PEOPLE))

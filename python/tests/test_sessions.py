@@ -9,7 +9,7 @@ from concurrent.futures import ThreadPoolExecutor
 from unittest import mock
 
 from bsonfind import CommandError, DumpError, ProgramError, Session, SessionEndedError, find
-from bsonfind._ask.steps import LONGEST_COMMAND
+from bsonfind._ask.connections import LONGEST_COMMAND
 
 from .support import DAMAGED, PEOPLE, PEOPLE_LINES, PROGRAM, SHOP, SHOP_LINES, Room, packed
 

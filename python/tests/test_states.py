@@ -27,7 +27,8 @@ from bsonfind import (
     find_parts,
     plan,
 )
-from bsonfind._ask import steps as _steps
+from bsonfind._ask import readings as _readings
+from bsonfind._ask.decoding import Decoding as _Decoding
 
 from .support import DOUBLE, PATIENCE, PEOPLE, PEOPLE_LINES, PROGRAM, Room, environment, packed, wait_for
 
@@ -170,7 +171,7 @@ class Interrupts(Room):
         with Session(PEOPLE, PROGRAM) as session:
             cursor = session.find(batch_size=40, decode="bytes")
             found = [next(cursor) for _ in range(40)]
-            with mock.patch("bsonfind._ask.steps.read_batch", side_effect=KeyboardInterrupt), self.assertRaises(KeyboardInterrupt):
+            with mock.patch("bsonfind._ask.readings.read_batch", side_effect=KeyboardInterrupt), self.assertRaises(KeyboardInterrupt):
                 next(cursor)
             for _ in range(2):
                 with self.assertRaises(CursorStateError):
@@ -346,13 +347,13 @@ class Bounds(Room):
         sizes = [10] * 60 + [3000] * 30 + [20_000] * 3 + [10] * 60
         dump = self.file(packed(f'{{"_id":{number},"a":"{"x" * size}"}}' for number, size in enumerate(sizes)))
         held = []
-        batches_by = _steps.batches_by
+        batch = _Decoding.batch
 
-        def watched(decode: object) -> Callable:
-            documents_of = batches_by(decode)
-            return lambda text, size: held.append(len(text)) or documents_of(text, size)
+        def watched(decoding: _Decoding, text: bytes) -> object:
+            held.append(len(text))
+            return batch(decoding, text)
 
-        with mock.patch.object(_steps, "MOST_BYTES", 10_000), mock.patch.object(_steps, "batches_by", watched):
+        with mock.patch.object(_readings, "MOST_BYTES", 10_000), mock.patch.object(_Decoding, "batch", watched):
             with Session(dump, PROGRAM) as session:
                 found = [json.loads(line) for line in session.find(decode="bytes", batch_size=50)]
         self.assertEqual([it["_id"]["$numberInt"] for it in found], [str(number) for number in range(len(sizes))])
@@ -363,7 +364,7 @@ class Bounds(Room):
 
     def test_a_batch_that_is_passed_over_keeps_the_token(self) -> None:
         dump = self.file(packed(f'{{"_id":{number},"a":"{"x" * 3000}"}}' for number in range(20)))
-        with mock.patch.object(_steps, "MOST_BYTES", 10_000), Session(dump, PROGRAM) as session:
+        with mock.patch.object(_readings, "MOST_BYTES", 10_000), Session(dump, PROGRAM) as session:
             lines = list(session.find(decode="bytes"))
             cursor = session.find(sort={"_id": -1}, decode="bytes")
             found = [next(cursor) for _ in range(7)]

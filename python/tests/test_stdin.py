@@ -7,7 +7,7 @@ import threading
 import time
 from typing import Iterator, List, Tuple
 
-from .support import PATIENCE, PROGRAM, Room, environment
+from .support import COMMAND, PATIENCE, PROGRAM, Room, environment
 from .goods import document, double, whole
 
 DOCUMENTS = [document(whole("_id", it)) for it in range(3)] + [document(double("x", 1.5))]
@@ -20,7 +20,7 @@ class StandardInput(Room):
     def words(self, command: str, name: str) -> List[str]:
         """The words of a command over a dump."""
         outputs = ["--good", str(self.room / "good"), "--bad", str(self.room / "bad")]
-        return [sys.executable, "-m", "bsonfind", "--program", PROGRAM, command, name, *(outputs if command == "salvage" else [])]
+        return [*COMMAND, command, name, *(outputs if command == "salvage" else [])]
 
     def run_over(self, words: List[str], stdin: int) -> Tuple[int, str]:
         """The status of a run over a descriptor, and all that it says."""
@@ -118,7 +118,7 @@ class StandardInput(Room):
             for names, told in ((["-", "/dev/stdin"], "/dev/stdin"), (["/dev/fd/0", "-"], "standard input"), (["/dev/stdin", "/dev/fd/0"], "/dev/fd/0")):
                 read, write = os.pipe()
                 os.close(write)
-                command = [sys.executable, "-m", "bsonfind", "--program", PROGRAM, *words, *names]
+                command = [*COMMAND, *words, *names]
                 status, said = self.run_over(command, read)
                 os.close(read)
                 self.assertEqual((status, said), (2, f"bsonkit: {told} is named twice\n"), words)

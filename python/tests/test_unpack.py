@@ -457,8 +457,7 @@ class Audits(Room):
         path = str(self.file(archive([("shop", "orders", SHOP_DATA)]), "a"))
         empty = '[ "$1" = --version ] && exec "$WIDE" --version; [ "$(head -c 4 | wc -c)" = 4 ] || exec "$WIDE" check /dev/null'
         stuck = self.wide(f'{empty}\necho $$ >>"$ROOM/pids"\nexec sleep 600')
-        words = ["--program", stuck, "audit", path]
-        self.assertEqual(self.interrupt(f"import sys\nfrom bsonfind.__main__ import main\nsys.exit(main({words!r}))", 1), 130)
+        self.interrupt_command("--program", stuck, "audit", path)
 
 
 class Members(Room):

@@ -2,8 +2,6 @@
 
 import gzip
 import os
-import subprocess
-import sys
 from typing import List, Tuple, Union
 from unittest import mock
 
@@ -11,7 +9,7 @@ from bsonfind._command.checks import check_file, dump_file
 from bsonfind._command.console import Console
 
 from .bson import document, field, text
-from .support import DAMAGED, DOUBLE, PATIENCE, PEOPLE, PEOPLE_LINES, PROGRAM, Room, environment, packed
+from .support import DAMAGED, DOUBLE, PEOPLE, PEOPLE_LINES, PROGRAM, Room, packed, run_of_bytes
 
 DECIMAL = bytes.fromhex("18000000136400") + (1234 | 6174 << 113).to_bytes(16, "little") + b"\0"
 # A double before damage; the byte of the fault is 18.
@@ -23,9 +21,8 @@ LINES = [b'{"d":{"$numberDouble":"1.0"}}', b'{"d":{"$numberDecimal":"12.34"}}']
 class Commands(Room):
     def run_command(self, *words: Union[str, "os.PathLike[str]"], stdin: bytes = b"") -> Tuple[int, List[bytes], str]:
         """The status, the lines of standard output and what standard error says."""
-        command = [sys.executable, "-m", "bsonfind", "--program", PROGRAM, *words]
-        run = subprocess.run(command, env=environment(), input=stdin, stdout=subprocess.PIPE, stderr=subprocess.PIPE, timeout=PATIENCE)
-        return run.returncode, run.stdout.splitlines(), run.stderr.decode()
+        status, data, told = run_of_bytes(*words, stdin=stdin)
+        return status, data.splitlines(), told
 
     def forms(self, data: bytes) -> list:
         """The words for a file, a compressed one and standard input, with the bytes of that."""
