@@ -20,17 +20,20 @@ _bsonwide_inputs() {
 	fi
 }
 
-# Those of these options that the line has not, and a file where it has none; of the values of options only formats.
+# Those of these options that the line has not, and a file where it has none; of the values of options only formats and
+# files.
 _bsonwide_options() {
 	local word=$1 options=$2 option='' is_file_there='' at=2
 	while ((at < COMP_CWORD)); do
 		case ${COMP_WORDS[at]} in
-		--query | --sort | --skip | --limit | --batch | --index | --after | --jsonFormat)
+		--query | --queryFile | --sort | --skip | --limit | --batch | --index | --after | --jsonFormat)
 			option=${COMP_WORDS[at]}
 			options=${options/ $option / }
-			if [[ $option == --batch ]]; then
-				options=${options/ --count / }
-			fi
+			case $option in
+			--batch) options=${options/ --count / } ;;
+			--query) options=${options/ --queryFile / } ;;
+			--queryFile) options=${options/ --query / } ;;
+			esac
 			((at += 1))
 			if [[ ${COMP_WORDS[at]} == = ]]; then
 				((at += 1))
@@ -50,9 +53,10 @@ _bsonwide_options() {
 		((at += 1))
 	done
 	if ((at > COMP_CWORD)); then
-		if [[ $option == --jsonFormat ]]; then
-			mapfile -t COMPREPLY < <(compgen -W "canonical relaxed" -- "${word#=}")
-		fi
+		case $option in
+		--jsonFormat) mapfile -t COMPREPLY < <(compgen -W "canonical relaxed" -- "${word#=}") ;;
+		--queryFile) _bsonwide_inputs '' "${word#=}" ;;
+		esac
 		return
 	fi
 	if [[ -z $is_file_there ]]; then
@@ -79,7 +83,7 @@ _bsonwide() {
 	case $command in
 	dump) options=' --jsonFormat ' ;;
 	serve) options=' --byValue ' ;;
-	find) options=' --query --sort --skip --limit --batch --index --after --bson --count ' ;;
+	find) options=' --query --queryFile --sort --skip --limit --batch --index --after --bson --count ' ;;
 	esac
 	if [[ -n $options ]]; then
 		_bsonwide_options "$word" "$options"

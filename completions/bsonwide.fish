@@ -14,7 +14,7 @@ function __bsonwide_needs_file
     for word in $words[3..]
         if test $is_value = 1
             set is_value 0
-        else if contains -- $word --query --sort --skip --limit --batch --index --after --jsonFormat
+        else if contains -- $word --query --queryFile --sort --skip --limit --batch --index --after --jsonFormat
             set is_value 1
         else if not string match -q -- '--*' $word
             return 1
@@ -41,7 +41,9 @@ complete -c bsonwide -n '__bsonwide_needs_file pack' -F
 complete -c bsonwide -n '__bsonwide_needs dump jsonFormat' -l jsonFormat -x -a 'canonical relaxed' -d 'how numbers and dates are printed'
 complete -c bsonwide -n 'test (commandline -opc)[-1] = --jsonFormat' -a 'canonical relaxed'
 complete -c bsonwide -n '__bsonwide_needs serve byValue' -l byValue -d 'read doubles and decimal128 over any dump'
-complete -c bsonwide -n '__bsonwide_needs find query' -l query -x -d 'the query, as {"age":{"$gte":18}}'
+complete -c bsonwide -n '__bsonwide_needs find query; and __bsonwide_needs find queryFile' -l query -x -d 'the query, as {"age":{"$gte":18}}'
+complete -c bsonwide -n '__bsonwide_needs find query; and __bsonwide_needs find queryFile' -l queryFile -r -F -d 'the file of the query'
+complete -c bsonwide -n 'test (commandline -opc)[-1] = --queryFile' -a - -d 'standard input'
 complete -c bsonwide -n '__bsonwide_needs find sort' -l sort -x -d 'the sort, as {"age":-1}'
 complete -c bsonwide -n '__bsonwide_needs find skip' -l skip -x -d 'pass over N documents'
 complete -c bsonwide -n '__bsonwide_needs find limit' -l limit -x -d 'at most N documents'

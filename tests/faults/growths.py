@@ -234,6 +234,7 @@ def wide_runs(failing: Failing) -> list[Run]:
         Run("find of the greatest", ["find", "-", "--sort", '{"d":-1}', "--limit", "1"], b"".join(numbers), number_lines[1:2], counted(1, "end", 1, CODED, sort='{"d":-1}', limit=1)),
         Run("find by value, bytes", ["find", "-", "--query", '{"d":{"$gte":1.5}}', "--bson"], b"".join(numbers), numbers[1:2], counted(1, "end", 1, CODED, query='{"d":{"$gte":{"$numberLong":"3"}}}')),
         Run("find by value, how many", ["find", "-", "--query", '{"d":{"$gte":1.5}}', "--count"], b"".join(numbers), [b"1\n"], counted(1, "end", 1, CODED, query='{"d":{"$gte":{"$numberLong":"3"}}}')),
+        Run("find, the query on standard input", ["find", "numbers.bson", "--queryFile", "-"], b'{"d":{"$gte":1.5}}\n', number_lines[1:2], counted(1, "end", 1, CODED, query='{"d":{"$gte":{"$numberLong":"3"}}}')),
         Run("find, bytes", ["find", "-", "--bson"], FIVE_DUMP, [document for document, _ in FIVE], counted(5, "end", 4, FIVE_DUMP)),
         Run("find, how many", ["find", "-", "--count"], FIVE_DUMP, [b"5\n"], counted(5, "end", 4, FIVE_DUMP)),
         Run("find, how many and bytes", ["find", "-", "--count", "--bson"], FIVE_DUMP, [], USAGE, 2),

@@ -23,7 +23,7 @@ COMPLETIONS = ROOT / "completions"
 COMMANDS = {"dump", "check", "pack", "find", "serve"}
 OF_WIDE = {"dump", "check", "pack", "find", "serve"}
 OPTIONS = {"--query", "--sort", "--skip", "--limit", "--batch", "--index", "--after"}
-WIDE_OPTIONS = OPTIONS | {"--bson", "--count"}
+WIDE_OPTIONS = OPTIONS | {"--queryFile", "--bson", "--count"}
 FORMAT, FORMATS = {"--jsonFormat"}, {"canonical", "relaxed"}
 BY_VALUE = {"--byValue"}
 DUMPS = {"one.bson", "two.bson", "room/"}
@@ -45,7 +45,7 @@ def of_find(options: set[str]) -> list[Row]:
         ("find one.bson --s", {"--sort", "--skip"}, set()),
         ("find one.bson --skip 1 --s", {"--sort"}, set()),
         ("find one.bson --skip=1 --s", {"--sort"}, set()),
-        ("find one.bson --query '{\"a\":1}' --", options - {"--query"}, set()),
+        ("find one.bson --query '{\"a\":1}' --", options - {"--query", "--queryFile"}, set()),
         ("find one.bson t", set(), set()),
         # `--count` of `bsonwide` goes with neither `--batch` nor `--bson`.
         ("find --batch 3 ", DUMPS | {"-"}, options - {"--batch", "--count"} | OTHERS),
@@ -101,6 +101,10 @@ OF_BSONWIDE: list[Row] = [
     ("check -- ", DUMPS | {"-"}, OTHERS),
     ("check one.bson ", set(), set()),
     *of_find(WIDE_OPTIONS),
+    ("find --queryFile ", DUMPS | OTHERS | {"-"}, set()),
+    ("find one.bson --queryFile l", {"lines.jsonl"}, set()),
+    ("find --queryFile lines.jsonl --", WIDE_OPTIONS - {"--query", "--queryFile"}, set()),
+    ("find --queryFile lines.jsonl ", DUMPS | {"-"}, WIDE_OPTIONS - {"--query", "--queryFile"} | OTHERS),
     ("find one.bson --bson --", WIDE_OPTIONS - {"--bson", "--count"}, set()),
     ("find one.bson --count --", WIDE_OPTIONS - {"--bson", "--count", "--batch"}, set()),
     ("find one.bson --batch 3 --", WIDE_OPTIONS - {"--batch", "--count"}, set()),

@@ -6,7 +6,8 @@ lines, as bytes, and how many.
 
 The program is `bsonwide`. The model compares all numbers exactly, as MongoDB does. What is found must be the lines of `bsonwide dump` at
 the places of the model's answer, with `--bson` the bytes of the dump at these places, and with `--count` how many they are; standard error
-and the status stay. A query is refused for its types only where it names some of the four types of numbers.
+and the status stay. A query in a file has the answer of the same in an argument. A query is refused for its types only where it names some
+of the four types of numbers.
 """
 
 import random
@@ -30,6 +31,8 @@ REQUESTS = 20
 
 TYPES = "bsonwide: query: the types of numbers are not told apart here\n"
 USAGE = usage_of("bsonwide")
+# A query in a file has at most so many bytes.
+LONGEST_QUERY = 16_777_216
 COUNTS = re.compile(r"([0-9]+) documents, (end|more)(?:, token (\S+))?\n")
 
 
@@ -56,9 +59,9 @@ class Finding:
         status, out, said = self.run_bytes(*words)
         return status, out.decode().splitlines(keepends=True), said
 
-    def run_bytes(self, *words: str) -> tuple[int, bytes, str]:
+    def run_bytes(self, *words: str, given: bytes = b"") -> tuple[int, bytes, str]:
         """The same, with standard output as bytes."""
-        ran = subprocess.run([PROGRAM, *words], cwd=self.room, capture_output=True, check=False, timeout=60)
+        ran = subprocess.run([PROGRAM, *words], cwd=self.room, input=given, capture_output=True, check=False, timeout=60)
         return ran.returncode, ran.stdout, ran.stderr.decode()
 
     def find_in_dump(self, number: int) -> None:
@@ -100,6 +103,10 @@ class Finding:
             documents = documents_of(model.bytes)
             self.forms(name, words, (status, said), b"".join(documents[place] for place in places), f"{len(places)}\n".encode())
             self.pages(name, words, wanted)
+        if self.rng.random() < 0.2:
+            (self.room / "query.json").write_text(f"{words[1]}\n", encoding="utf-8")
+            by_file = self.run("find", "dump.bson", "--queryFile", "query.json", *words[2:])
+            self.tests.want(f"{name}, the query in a file", by_file == (status, found, said), (by_file, found, said))
 
     def forms(self, name: str, words: list[str], ended: tuple[int, str], dump: bytes, count: bytes) -> None:
         """With a flag standard output is another, and the status and standard error are the same."""
@@ -138,10 +145,65 @@ class Finding:
             ran = self.run("find", "bad.bson", "--query", query)
             self.tests.want(f"dump {number}, damaged, {query}", ran == (1, [], wanted), (ran, wanted))
 
+    def in_files(self) -> None:
+        """A query in a file or on standard input: its limit, its faults, and files that are not read."""
+        dump, match, other = b"\x10\0\0\0\x01a\0\0\0\0\0\0\0\xf8\x3f\0", b'{"a":{"$lt":1.75}}', b'{"a":2}'
+        (self.room / "one.bson").write_bytes(dump)
+        (self.room / "query.json").write_bytes(match)
+        for text in (match, match + b"\n", b" \n\t" + match + b" \r\n\n", match.ljust(LONGEST_QUERY), other):
+            self.want_query(text, text != other)
+        for text, said in (
+            (match.ljust(LONGEST_QUERY + 1), "input too long"),
+            (b"", self.said_of("")),
+            (b'{"a":', self.said_of('{"a":')),
+            (b'{"a":1}x', self.said_of('{"a":1}x')),
+            (b'{"\xff":1}', "query: byte 2: not JSON"),
+            (b'{"a":1}\0', self.said_of('{"a":1}x')),
+        ):
+            (self.room / "bad.json").write_bytes(text)
+            wanted = (1, b"", f"bsonwide: {said}\n")
+            for ran in self.asked(text, "bad.json"):
+                self.tests.want(f"the query {text[:20]!r} in a file", ran == wanted, (ran, wanted))
+        for words, status, said in (
+            # The query is read before the dump is opened, and its text is understood after that.
+            (("missing.bson", "--queryFile", "missing.json"), 1, "bsonwide: cannot open missing.json\n"),
+            (("missing.bson", "--queryFile", "."), 1, "bsonwide: cannot read\n"),
+            (("missing.bson", "--queryFile", "one.bson"), 1, "bsonwide: cannot open missing.bson\n"),
+            (("one.bson", "--queryFile", ""), 1, "bsonwide: cannot open \n"),
+            (("one.bson", "--queryFile"), 2, USAGE),
+            (("one.bson", "--queryFile", "query.json", "--queryFile", "query.json"), 2, USAGE),
+            (("one.bson", "--queryFile", "query.json", "--query", "{}"), 2, USAGE),
+            (("one.bson", "--query={}", "--queryFile=missing.json"), 2, USAGE),
+            (("-", "--queryFile", "-"), 2, USAGE),
+            (("--queryFile=-", "--", "-"), 2, USAGE),
+        ):
+            ran = self.run_bytes("find", *words)
+            self.tests.want(f"find {words}", ran == (status, b"", said), (ran, said))
+        ran = self.run_bytes("find", "-", "--queryFile", "query.json", "--bson", given=dump)
+        self.tests.want("a query in a file, and the dump on standard input", ran[:2] == (0, dump), ran)
+        for command in ("dump", "check", "pack", "serve"):
+            ran = self.run_bytes(command, "one.bson", "--queryFile", "query.json")
+            self.tests.want(f"{command} with --queryFile", ran == (2, b"", USAGE), ran)
+
+    def asked(self, text: bytes, name: str, *words: str) -> list[tuple[int, bytes, str]]:
+        """A run by a query in a file of that name, and one by the same on standard input."""
+        (self.room / name).write_bytes(text)
+        return [self.run_bytes("find", "one.bson", f"--queryFile={it}", *words, given=text) for it in (name, "-")]
+
+    def want_query(self, text: bytes, is_found: bool) -> None:
+        """The query of this text finds the one document, or none."""
+        for status, found, said in self.asked(text, "good.json", "--count"):
+            self.tests.want(f"the query {text[:40]!r} in a file", (status, found) == (0, b"1\n" if is_found else b"0\n"), (status, found, said))
+
+    def said_of(self, query: str) -> str:
+        """What is said of a query in an argument, without the name of the program."""
+        return self.run("find", "one.bson", "--query", query)[2].removeprefix("bsonwide: ").removesuffix("\n")
+
 
 def main() -> int:
     with tempfile.TemporaryDirectory() as room:
         finding = Finding(random.Random(SEED), room)
+        finding.in_files()
         for number in range(DUMPS):
             finding.find_in_dump(number)
     print(f"refused {finding.refused} times for types of numbers")

@@ -1,6 +1,8 @@
 -- What a run of each command prints.
-use Rattle.std.specs.Prelude.{codes, ℕ, Bool, true, false, List, Option}
+use Rattle.std.specs.Prelude.{codes, ℕ, Bool, true, false, List, Option, unwrap_or}
+use Rattle.std.specs.Option.{option_or}
 use Rattle.bd_io_device.specs.Devices.{Over, Reader, Writer}
+use Rattle.bd_cli_args.specs.FindOptions.{FindOptions}
 use Rattle.bd_bson_check.specs.declared.profile.Profile.TheVariants.{All}
 use Rattle.bd_cli_scan.specs.{Check.check_run_under, Dump.dump_run_by, Run.Prints, declared.output.Status.Status}
 use Rattle.bd_cli_files.specs.Pack.{pack_run_by}
@@ -10,17 +12,22 @@ use Rattle.bd_wide_cli.specs.{Dump.all_types, declared.command.Command.Command}
 use Rattle.bd_wide_cli.specs.Pack as packing
 use Rattle.bd_wide_cli.specs.declared.command.Command.TheVariants as commands
 
+-- the text of the query of `find`: what was read of its file, if it has one, else that of the options;
+-- without either it is `{}`
+abbrev pub query_text : Option (List ℕ) → FindOptions → List ℕ
+query_text read options = unwrap_or (option_or read options.query) (codes "{}")
+
 -- For the reader of the commands of `serve`: what its reads may give, and its state before and after.
 module _ {C : Type 0} (state : C → Reader) (gives : C → Option (List ℕ) → C → Type 0) (old new : C) where
-  -- A run of the command did this.
-  abbrev pub RunsCommand : Command → Over Reader → Over Writer → Over Writer → Status → Type 0
-  RunsCommand commands.Check file out err status = Prints (codes "bsonwide") (check_run_under All file) out err status
-  RunsCommand (commands.Dump format) file out err status =
+  -- A run of the command did this, by what was read of the file of its query, if it has one.
+  abbrev pub RunsCommand : Option (List ℕ) → Command → Over Reader → Over Writer → Over Writer → Status → Type 0
+  RunsCommand query commands.Check file out err status = Prints (codes "bsonwide") (check_run_under All file) out err status
+  RunsCommand query (commands.Dump format) file out err status =
       Prints (codes "bsonwide") (dump_run_by (all_types format) file) out err status
-  RunsCommand commands.Pack file out err status = Prints (codes "bsonwide") (pack_run_by packing.all_types file) out err status
-  RunsCommand (commands.Find options form) file out err status =
-      Prints (codes "bsonwide") (wide_find_run form options file) out err status
-  RunsCommand (commands.Serve by_value) file out err status =
+  RunsCommand query commands.Pack file out err status = Prints (codes "bsonwide") (pack_run_by packing.all_types file) out err status
+  RunsCommand query (commands.Find options form) file out err status =
+      Prints (codes "bsonwide") (wide_find_run form (query_text query options) options file) out err status
+  RunsCommand query (commands.Serve by_value) file out err status =
       Prints (codes "bsonwide") (wide_serve_run state gives old new by_value file) out err status
 
 -- The command is not `serve`, so no commands are read.

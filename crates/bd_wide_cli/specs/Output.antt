@@ -10,6 +10,6 @@ abbrev pub usage : List ℕ
 usage = codes "usage: bsonwide dump FILE [--jsonFormat FORMAT]\n"
     ++ codes "       bsonwide check FILE\n"
     ++ codes "       bsonwide pack FILE\n"
-    ++ codes "       bsonwide find FILE [--query Q] [--sort S] [--skip N] [--limit N] [--batch N] [--index PATH] [--after TOKEN]"
-    ++ codes " [--bson | --count]\n"
+    ++ codes "       bsonwide find FILE [--query Q | --queryFile FILE] [--sort S] [--skip N] [--limit N]"
+    ++ codes " [--batch N] [--index PATH] [--after TOKEN] [--bson | --count]\n"
     ++ codes "       bsonwide serve FILE [--byValue]\n"

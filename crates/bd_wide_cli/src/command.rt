@@ -2,7 +2,7 @@
 
 ghost use Rattle.bd_io_device.specs.Devices.{over};
 ghost use Rattle.std.specs.Prelude.{◌≡◌, option_map};
-ghost use Rattle.bd_wide_cli.specs.Command.{ReadsNoCommands, RunsCommand, is_serve};
+ghost use Rattle.bd_wide_cli.specs.Command.{ReadsNoCommands, RunsCommand, is_serve, query_text};
 ghost use Rattle.bd_wide_cli.specs.Dump.{format_named};
 
 use crate::dump::dump;
@@ -41,16 +41,18 @@ pub enum Command {
 /// if memory runs out. It takes the memory of one document, and of what is written for it; for `Pack` that of all documents, and for
 /// `Find` and `Serve` that of the dump, and of a copy if it is searched by value.
 ///
-/// The commands of a session are read from `commands`.
+/// `query` is what was read of the file of the query, if the command has one. The commands of a session are read from `commands`.
 pub fn run<R: Input, C: Input, O: Output, E: Output>(
     alloc: Global,
     command: &Command,
+    query: Option<&[u8]>,
     file: &mut R,
     commands: &mut C,
     out: &mut O,
     err: &mut E,
 ) -> Status
-    ensures ran { RunsCommand C.state C.read_gives commands.old commands.new command.now
+    ensures ran { RunsCommand C.state C.read_gives commands.old commands.new
+        (option_map (λ q. q.now) query.entry) command.now
         (over R.state file.old file.new) (over O.state out.old out.new)
         (over E.state err.old err.new) result }
     // An input that is not needed is not read.
@@ -63,10 +65,24 @@ pub fn run<R: Input, C: Input, O: Output, E: Output>(
             let packer = WidePacker::new(alloc);
             pack_by(alloc, PROGRAM, WideLinePacker { packer }, file, out, err)
         }
-        Command::Find(options, form) => find(alloc, PROGRAM, *form, options, file, out, err),
+        Command::Find(options, form) => {
+            let text = query_text(query, options);
+            find(alloc, PROGRAM, *form, text, options, file, out, err)
+        }
         Command::Serve { by_value } => {
             serve(alloc, PROGRAM, *by_value, file, commands, out, err)
         }
+    }
+}
+
+/// The text of the query: what was read of its file, if it has one, else that of the options; without either it is `{}`.
+fn query_text<'a>(read: Option<&'a [u8]>, options: &'a FindOptions) -> &'a [u8]
+    ensures { result.now ≡ query_text (option_map (λ q. q.now) read.entry) options.entry.now }
+{
+    match (read, &options.query) {
+        (Some(text), _) => text,
+        (None, Some(text)) => text.as_bytes(),
+        (None, None) => b"{}",
     }
 }
 

@@ -15,6 +15,7 @@
 //! let status = run(
 //!     alloc,
 //!     &command,
+//!     None,
 //!     &mut input,
 //!     &mut commands,
 //!     &mut out,

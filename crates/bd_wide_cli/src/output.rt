@@ -17,7 +17,7 @@ pub const PROGRAM: &str = "bsonwide";
 const USAGE: &str = "usage: bsonwide dump FILE [--jsonFormat FORMAT]
        bsonwide check FILE
        bsonwide pack FILE
-       bsonwide find FILE [--query Q] [--sort S] [--skip N] [--limit N] [--batch N] [--index PATH] [--after TOKEN] [--bson | --count]
+       bsonwide find FILE [--query Q | --queryFile FILE] [--sort S] [--skip N] [--limit N] [--batch N] [--index PATH] [--after TOKEN] [--bson | --count]
        bsonwide serve FILE [--byValue]
 ";
 

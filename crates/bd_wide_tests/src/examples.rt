@@ -60,6 +60,7 @@ fn dumped(rt: HostRuntime) {
     let status = run(
         alloc,
         &command,
+        None,
         &mut input,
         &mut commands,
         &mut out,
@@ -81,6 +82,7 @@ fn packed(rt: HostRuntime) {
     let status = run(
         alloc,
         &Command::Pack,
+        None,
         &mut input,
         &mut commands,
         &mut out,
@@ -107,6 +109,7 @@ fn served(rt: HostRuntime) {
     let status = run(
         alloc,
         &command,
+        None,
         &mut input,
         &mut commands,
         &mut out,
@@ -126,7 +129,7 @@ fn reports(rt: HostRuntime) {
     let usage = "usage: bsonwide dump FILE [--jsonFormat FORMAT]
        bsonwide check FILE
        bsonwide pack FILE
-       bsonwide find FILE [--query Q] [--sort S] [--skip N] [--limit N] [--batch N] [--index PATH] [--after TOKEN] [--bson | --count]
+       bsonwide find FILE [--query Q | --queryFile FILE] [--sort S] [--skip N] [--limit N] [--batch N] [--index PATH] [--after TOKEN] [--bson | --count]
        bsonwide serve FILE [--byValue]
 ";
     let mut buffer = [0; 500];

@@ -15,9 +15,29 @@ const BLOCK: usize = 65_536;
 /// The program.
 struct Bsonwide;
 
+/// A command and its files.
+#[derive(Drop)]
+struct Ordered {
+    command: Command,
+    /// The file that it reads.
+    file: String,
+    /// The file of its query, if it names one.
+    query_file: Option<String>,
+}
+
+impl Ordered {
+    /// A command over a file.
+    fn new(command: Command, file: String) -> Ordered {
+        Ordered {
+            command,
+            file,
+            query_file: None,
+        }
+    }
+}
+
 impl Program for Bsonwide {
-    /// A command, and its file.
-    type Command = (Command, String);
+    type Command = Ordered;
 
     fn name(&self) -> &str {
         PROGRAM
@@ -30,21 +50,33 @@ impl Program for Bsonwide {
     fn parse(&self, alloc: Global, words: &[String]) -> Result<Self::Command, WordsFault> {
         match parse_wide_words(alloc, words)? {
             WideOrder::Dump { file, format } => {
-                Ok((Command::Dump(read_format(format.as_deref())?), file))
+                let format = read_format(format.as_deref())?;
+                Ok(Ordered::new(Command::Dump(format), file))
             }
-            WideOrder::Check { file } => Ok((Command::Check, file)),
-            WideOrder::Pack { file } => Ok((Command::Pack, file)),
+            WideOrder::Check { file } => Ok(Ordered::new(Command::Check, file)),
+            WideOrder::Pack { file } => Ok(Ordered::new(Command::Pack, file)),
             WideOrder::Find {
                 file,
+                query_file,
                 options,
                 form,
-            } => Ok((Command::Find(options, form), file)),
-            WideOrder::Serve { file, by_value } => Ok((Command::Serve { by_value }, file)),
+            } => Ok(Ordered {
+                command: Command::Find(options, form),
+                file,
+                query_file,
+            }),
+            WideOrder::Serve { file, by_value } => {
+                Ok(Ordered::new(Command::Serve { by_value }, file))
+            }
         }
     }
 
     fn file<'a>(&self, command: &'a Self::Command) -> &'a str {
-        &command.1
+        &command.file
+    }
+
+    fn query_file<'a>(&self, command: &'a Self::Command) -> Option<&'a str> {
+        command.query_file.as_deref()
     }
 
     fn block(&self, _command: &Self::Command) -> usize {
@@ -52,19 +84,20 @@ impl Program for Bsonwide {
     }
 
     fn serves(&self, command: &Self::Command) -> bool {
-        is_serve(&command.0)
+        is_serve(&command.command)
     }
 
     fn run<F: Input, C: Input, O: Output, E: Output>(
         &self,
         alloc: Global,
         command: &Self::Command,
+        query: Option<&[u8]>,
         file: &mut F,
         commands: &mut C,
         out: &mut O,
         err: &mut E,
     ) -> Status {
-        bd_wide_cli::run(alloc, &command.0, file, commands, out, err)
+        bd_wide_cli::run(alloc, &command.command, query, file, commands, out, err)
     }
 
     fn report<O: Output, E: Output>(&self, fault: &WordsFault, out: &mut O, err: &mut E) -> Status {
