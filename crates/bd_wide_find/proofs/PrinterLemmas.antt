@@ -1,6 +1,6 @@
 -- What is printed of a document, after what is in a buffer.
 use Rattle.std.proofs.Common.{◌≡◌, ◌++◌, ℕ, List, Result, Ok, Err, take}
-use Rattle.std.specs.Prelude.{IfOk, OnErr}
+use Rattle.std.specs.Prelude.{IfOk}
 use Rattle.bd_extjson_text.specs.Buffer.{Appends}
 
 module _ {E : Type 0} (old new : List ℕ) (end : ℕ) (bytes : List ℕ) (Is : List ℕ → Type 0) (is : Is bytes) where

@@ -1,6 +1,5 @@
 -- The ends of a run of `serve` over documents of all types.
 use Rattle.std.proofs.Common.{◌≡◌, ℕ, Bool, false, List, [], Option, ◌∙◌, refl, ap, subst, inl, inr, Ok}
-use Rattle.bd_value.specs.Tree.{Doc}
 use Rattle.bd_io_device.specs.Devices.{Over, Reader, Writer, between, read_words}
 use Rattle.bd_io_device.proofs.DevicesLemmas.{takes_none}
 use Rattle.bd_bson_check.specs.{Dump.IsDump, Fault.fault_view}
