@@ -24,8 +24,8 @@
 //! );
 //! ```
 //!
-//! - `service`: `Service`, which replies to a line; `command_in`, the command in a document; `perform`, which makes a call:
-//!   `specs/ServiceView.antt`.
+//! - `service`: `Service`, which replies to a line; `reply_to`, the reply over a session; `command_in`, the command in a document;
+//!   `perform`, which makes a call: `specs/ServiceView.antt`.
 //! - `call`: `call_of`, the session call that a command means; `read_search` and `read_token`, its parts.
 //! - `reply`: `Reply` and `LineRefusal`, to match on; `write_reply`, the text of a reply; `write_refusal`: `specs/Reply.antt`.
 //! - `batch`: `write_batch`, the reply with a batch, by what prints its documents.
@@ -44,4 +44,4 @@ pub use batch::write_batch;
 pub use call::{Call, CallFault, call_of, read_search, read_token};
 pub use laws::{replies_go_on, talks_keep_to_the_answer, texts_are_talks};
 pub use reply::{LineRefusal, Reply, write_refusal, write_reply};
-pub use service::{Service, command_in, perform};
+pub use service::{Service, command_in, perform, reply_to};

@@ -6,7 +6,7 @@ ghost use Rattle.bd_cursor_model.specs.{Laws.new_state};
 ghost use Rattle.bd_bson_dump.specs.Collection.{bytes_of, documents};
 ghost use Rattle.bd_bson_dump.specs.declared.collection.Dump.{Dump};
 ghost use Rattle.bd_cursor_request.specs.Refused.{error_as};
-ghost use Rattle.bd_cursor.specs.SessionView.{dump_of};
+ghost use Rattle.bd_cursor.specs.SessionView.{dump_of, state_of};
 ghost use Rattle.bd_io_lines.specs.Serving.{RunsOutAt};
 ghost use Rattle.bd_cli_command.specs.{Command.command_tree, CommandOf.command_of};
 ghost use Rattle.bd_cli_service.specs.Reply.{command_refusal, line_reply};
@@ -44,21 +44,6 @@ impl Service {
             session: Session::new(alloc, dump),
         }
     }
-
-    /// The reply to a line. It fails only if memory runs out, and then the session is unchanged.
-    fn reply_to(&mut self, line: &[u8]) -> Result<Reply, NoMemory>
-        ensures answers { IfOk result (λ r. Answers (bytes_of (service_dump self.old))
-            (documents (service_dump self.old)) (service_state self.old) line.now
-            (line_reply (documents (service_dump self.old)) r) (service_state self.new)) }
-        ensures err { OnErr result (service_state self.new ≡ service_state self.old) }
-        ensures dump { service_dump self.new ≡ service_dump self.old }
-    {
-        match read_call(self.alloc, line) {
-            Ok(call) => perform(&mut self.session, call),
-            Err(CallFault::Refused(refusal)) => Ok(Reply::Refused(refusal)),
-            Err(CallFault::NoMemory) => Err(AllocError),
-        }
-    }
 }
 
 impl Replier for Service {
@@ -76,8 +61,23 @@ impl Replier for Service {
             (RunsOutAt KeepsState RepliesTo self.old command.now self.new) }
         ensures dump { service_dump self.new ≡ service_dump self.old }
     {
-        let reply = self.reply_to(command)?;
+        let reply = reply_to(self.alloc, &mut self.session, command)?;
         write_reply(self.alloc, self.session.dump(), &reply, text)
+    }
+}
+
+/// The reply to a line. It fails only if memory runs out, and then the session is unchanged.
+pub fn reply_to(alloc: Global, session: &mut Session, line: &[u8]) -> Result<Reply, NoMemory>
+    ensures answers { IfOk result (λ r. Answers (bytes_of (dump_of session.old))
+        (documents (dump_of session.old)) (state_of session.old) line.now
+        (line_reply (documents (dump_of session.old)) r) (state_of session.new)) }
+    ensures err { OnErr result (state_of session.new ≡ state_of session.old) }
+    ensures dump { dump_of session.new ≡ dump_of session.old }
+{
+    match read_call(alloc, line) {
+        Ok(call) => perform(session, call),
+        Err(CallFault::Refused(refusal)) => Ok(Reply::Refused(refusal)),
+        Err(CallFault::NoMemory) => Err(AllocError),
     }
 }
 

@@ -4,5 +4,4 @@ pub mod ExplainLemmas
 pub mod CallLemmas
 pub mod ServiceLemmas
 pub mod PlacesLemmas
-pub mod PlainLemmas
 pub mod ServeLemmas
