@@ -241,32 +241,6 @@ data_takes at subtype count bytes rest fits le is = of (subtype == 2) refl is
 
 -- ---- values
 
--- a document or an array that was skipped, with n levels remaining: elements whose names an array drops
-pub record TakesBody (depth_left : ℕ) (bytes rest : List ℕ) : Type 0 where
-  pub fields : Fields
-  pub body : List ℕ
-  pub spell : AreFields fields body
-  pub takes : Takes bytes (framed body) rest
-  pub shallow : fields_depth fields < depth_left
-
--- code with scope that was skipped
-pub record TakesCode (depth_left : ℕ) (bytes rest : List ℕ) : Type 0 where
-  pub text_bytes : List ℕ
-  pub fields : Fields
-  pub body : List ℕ
-  pub text_fits : IsText text_bytes
-  pub spell : AreFields fields body
-  pub takes : Takes bytes (scoped text_bytes (framed body)) rest
-  pub shallow : suc (fields_depth fields) < depth_left
-
-abbrev pub TakesHolder : Holder → ℕ → List ℕ → List ℕ → Type 0
-TakesHolder holders.Document = TakesBody
-TakesHolder holders.Array = TakesBody
-TakesHolder holders.CodeScope = TakesCode
-
-abbrev pub NestedTakes : ℕ → Nested → Type 0
-NestedTakes depth_left nested = (holder : Holder) (q e : ℕ) (bytes rest : List ℕ) → IsBytes bytes → nested holder q e bytes ≡ Ok rest → TakesHolder holder depth_left bytes rest
-
 -- the items of an array are the values of a document
 abbrev pub items_in : Fields → Items
 items_in no_fields = no_items
@@ -280,16 +254,16 @@ pub items_depth_is : (fs : Fields) → items_depth (items_in fs) ≡ fields_dept
 items_depth_is no_fields = refl
 items_depth_is (field n t fs) = ap (max (depth t)) (items_depth_is fs)
 
-pub record TakesValue (depth_left : ℕ) (kind : Kind) (bytes rest : List ℕ) : Type 0 where
-  pub tree : Tree
+-- a scalar that was skipped: the bytes that spell it
+pub record TakesScalar (kind : Kind) (bytes rest : List ℕ) : Type 0 where
+  pub scalar : Scalar
   pub value : List ℕ
-  pub spells : IsValue tree value
+  pub spells : IsScalar scalar value
   pub takes : Takes bytes value rest
-  pub kinded : kind_of tree ≡ kind
-  pub shallow : depth tree ≤ depth_left
+  pub kinded : scalar_kind scalar ≡ kind
 
-leaf_takes : (depth_left : ℕ) (s : Scalar) {bytes value rest : List ℕ} → Takes bytes value rest → IsScalar s value → TakesValue depth_left (scalar_kind s) bytes rest
-leaf_takes depth_left s {bytes} {value} {rest} takes spells = record { tree = leaf s; value = value; spells = spells; takes = takes; kinded = refl; shallow = omega arith }
+scalar_takes : (s : Scalar) {bytes value rest : List ℕ} → Takes bytes value rest → IsScalar s value → TakesScalar (scalar_kind s) bytes rest
+scalar_takes s {bytes} {value} {rest} takes spells = record { scalar = s; value = value; spells = spells; takes = takes; kinded = refl }
 
 -- eight bytes are a signed number
 long_takes : (e : ℕ) (bytes rest : List ℕ) → IsBytes bytes → skip_fixed 8 e bytes ≡ Ok rest → (z : ℤ) × FitsSigned w64 z × Takes bytes (long (cast_unsigned w64 z)) rest
@@ -302,37 +276,36 @@ long_takes e bytes rest fits is =
     let back : long (cast_unsigned w64 (cast_signed w64 n)) ≡ f.prefix = ap long (of_z-to_z w64 n below) ∙ le_bytes_8 f.prefix _ f.size f.fits refl in
     (cast_signed w64 n, search (arith, ints), rw back f.takes)
 
-module _ (depth_left : ℕ) where
-  -- a scalar of no bytes
-  none_takes : (s : Scalar) (bytes rest : List ℕ) → IsBytes bytes → IsScalar s [] → done bytes ≡ done rest → TakesValue depth_left (scalar_kind s) bytes rest
-  none_takes s bytes rest fits spells is = rw (← ok_is bytes rest is) (leaf_takes depth_left s (split_at_byte 0 bytes fits (omega arith)).takes spells)
+-- a scalar of no bytes
+none_takes : (s : Scalar) (bytes rest : List ℕ) → IsBytes bytes → IsScalar s [] → done bytes ≡ done rest → TakesScalar (scalar_kind s) bytes rest
+none_takes s bytes rest fits spells is = rw (← ok_is bytes rest is) (scalar_takes s (split_at_byte 0 bytes fits (omega arith)).takes spells)
 
-  boolean_takes : (e : ℕ) (bytes rest : List ℕ) → IsBytes bytes → skip_boolean e bytes ≡ Ok rest → TakesValue depth_left kinds.Bool bytes rest
-  boolean_takes e [] rest fits is = absurd cc
-  boolean_takes e (zero ∷ bs) rest fits is = rw (← ok_is bs rest is) (leaf_takes depth_left (trees.boolean false) (split_at_byte 1 (0 ∷ bs) fits (omega arith)).takes (tt, refl))
-  boolean_takes e (suc zero ∷ bs) rest fits is = rw (← ok_is bs rest is) (leaf_takes depth_left (trees.boolean true) (split_at_byte 1 (1 ∷ bs) fits (omega arith)).takes (tt, refl))
-  boolean_takes e (suc (suc b) ∷ bs) rest fits is = absurd (let le = ltb-false 1 (suc (suc b)) (guard_ok (ltb 1 (suc (suc b))) _ (done bs) rest is).0 in omega arith)
+boolean_takes : (e : ℕ) (bytes rest : List ℕ) → IsBytes bytes → skip_boolean e bytes ≡ Ok rest → TakesScalar kinds.Bool bytes rest
+boolean_takes e [] rest fits is = absurd cc
+boolean_takes e (zero ∷ bs) rest fits is = rw (← ok_is bs rest is) (scalar_takes (trees.boolean false) (split_at_byte 1 (0 ∷ bs) fits (omega arith)).takes (tt, refl))
+boolean_takes e (suc zero ∷ bs) rest fits is = rw (← ok_is bs rest is) (scalar_takes (trees.boolean true) (split_at_byte 1 (1 ∷ bs) fits (omega arith)).takes (tt, refl))
+boolean_takes e (suc (suc b) ∷ bs) rest fits is = absurd (let le = ltb-false 1 (suc (suc b)) (guard_ok (ltb 1 (suc (suc b))) _ (done bs) rest is).0 in omega arith)
 
-  binary_takes : (e : ℕ) (bytes rest : List ℕ) → IsBytes bytes → skip_binary e bytes ≡ Ok rest → TakesValue depth_left kinds.Binary bytes rest
-  unfolding skip_binary
-  binary_takes e bytes rest fits is =
-      let g = guard_ok (ltb (length bytes) 5) _ _ rest is in
-      let h = guard_ok (ltb 2147483647 (number_of bytes) || ltb (length bytes) (5 + number_of bytes)) _ _ rest g.1 in
-      let n = or_parts (ltb 2147483647 (number_of bytes)) (ltb (length bytes) (5 + number_of bytes)) h.0 in
-      let least : 5 ≤ length bytes = ltb-false _ _ g.0 in
-      let few : number_of bytes ≤ 2147483647 = ltb-false _ _ n.0 in
-      let le : 5 + number_of bytes ≤ length bytes = ltb-false _ _ n.1 in
-      let k = get_or bytes 4 0 in
-      let d = data_takes (e - length bytes) k (number_of bytes) (drop 5 bytes) rest (IsBytes-drop 5 bytes fits) (omega (arith, le, length-drop 5 bytes)) h.1 in
-      let c = split_at_byte 4 bytes fits (omega (arith, least)) in
-      let prefix : number (length (data_of k d.payload)) ≡ take 4 bytes = ap number d.size ∙ number_back (take 4 bytes) c.size c.fits in
-      let head : Takes bytes (number (length (data_of k d.payload)) ++ k ∷ []) (drop 5 bytes) = record {
-        parts = sym (take-append-drop 4 bytes) ∙ ap₂ (λ (x y : List ℕ). x ++ y) (sym prefix) (drop-cons bytes 4 0 (omega (arith, least)))
-            ∙ sym (append_assoc (number (length (data_of k d.payload))) (k ∷ []) (drop 5 bytes));
-        rest_fits = IsBytes-drop 5 bytes fits;
-      } in
-      leaf_takes depth_left (trees.binary k d.payload) (Takes-then head d.takes)
-      ((fits 4, omega (arith, d.size, few)), append_assoc (number (length (data_of k d.payload))) (k ∷ []) (data_of k d.payload))
+binary_takes : (e : ℕ) (bytes rest : List ℕ) → IsBytes bytes → skip_binary e bytes ≡ Ok rest → TakesScalar kinds.Binary bytes rest
+unfolding skip_binary
+binary_takes e bytes rest fits is =
+    let g = guard_ok (ltb (length bytes) 5) _ _ rest is in
+    let h = guard_ok (ltb 2147483647 (number_of bytes) || ltb (length bytes) (5 + number_of bytes)) _ _ rest g.1 in
+    let n = or_parts (ltb 2147483647 (number_of bytes)) (ltb (length bytes) (5 + number_of bytes)) h.0 in
+    let least : 5 ≤ length bytes = ltb-false _ _ g.0 in
+    let few : number_of bytes ≤ 2147483647 = ltb-false _ _ n.0 in
+    let le : 5 + number_of bytes ≤ length bytes = ltb-false _ _ n.1 in
+    let k = get_or bytes 4 0 in
+    let d = data_takes (e - length bytes) k (number_of bytes) (drop 5 bytes) rest (IsBytes-drop 5 bytes fits) (omega (arith, le, length-drop 5 bytes)) h.1 in
+    let c = split_at_byte 4 bytes fits (omega (arith, least)) in
+    let prefix : number (length (data_of k d.payload)) ≡ take 4 bytes = ap number d.size ∙ number_back (take 4 bytes) c.size c.fits in
+    let head : Takes bytes (number (length (data_of k d.payload)) ++ k ∷ []) (drop 5 bytes) = record {
+      parts = sym (take-append-drop 4 bytes) ∙ ap₂ (λ (x y : List ℕ). x ++ y) (sym prefix) (drop-cons bytes 4 0 (omega (arith, least)))
+          ∙ sym (append_assoc (number (length (data_of k d.payload))) (k ∷ []) (drop 5 bytes));
+      rest_fits = IsBytes-drop 5 bytes fits;
+    } in
+    scalar_takes (trees.binary k d.payload) (Takes-then head d.takes)
+    ((fits 4, omega (arith, d.size, few)), append_assoc (number (length (data_of k d.payload))) (k ∷ []) (data_of k d.payload))
 
 -- ---- types
 
@@ -363,24 +336,6 @@ pub within_ok : {A : Type 0} (name : List ℕ) (r : Result A Fault) (x : A) → 
 within_ok name (Ok y) x is = is
 within_ok name (Err f) x is = absurd cc
 
--- ---- elements
-
-pub record TakesElement (depth_left : ℕ) (bytes rest : List ℕ) : Type 0 where
-  pub name : List ℕ
-  pub tree : Tree
-  pub value : List ℕ
-  pub named : IsName name
-  pub spells : IsValue tree value
-  pub takes : Takes bytes (element tree name value) rest
-  pub shallow : depth tree ≤ depth_left
-
--- an element takes some bytes
-pub element_shrinks : (depth_left : ℕ) (bytes rest : List ℕ) → TakesElement depth_left bytes rest → length rest < length bytes
-element_shrinks depth_left bytes rest r =
-    let e = ap length r.takes.parts in
-    let f = length-append (element r.tree r.name r.value) rest in
-    omega (arith, e, f)
-
 -- the bytes of the code and the scope, and what follows
 pub code_frame_takes : (e : ℕ) (bytes : List ℕ) (f : List ℕ × ℕ × List ℕ) → IsBytes bytes → skip_code_frame e bytes ≡ Ok f → Takes bytes (number (length f.0 + 4) ++ f.0) f.2 × IsBytes f.0
 unfolding skip_code_frame
@@ -399,135 +354,239 @@ code_frame_takes e bytes f fits is =
     rw (← ok_is (take (n - 4) more, e - length (drop (n - 4) more), drop (n - 4) more) f g.1)
     (subst (λ (k : ℕ). Takes bytes (number k ++ take (n - 4) more) (drop (n - 4) more)) n_is (Takes-then t.0 c.takes), c.fits)
 
--- ---- values that contain values, if those one level down are known
+-- nothing is taken of a value that holds others
+abbrev pub refused : Nested
+refused holder q e bytes = fault UnknownType q
 
-module _ (depth_left : ℕ) (nested : Nested) (below : NestedTakes depth_left nested) where
-  pub value_takes : (kind : Kind) (q e : ℕ) (bytes rest : List ℕ) → IsBytes bytes → skip_value nested kind q e bytes ≡ Ok rest → TakesValue depth_left kind bytes rest
-  value_takes kinds.MinKey q e bytes rest fits is = none_takes depth_left trees.min_key bytes rest fits (tt, refl) is
-  value_takes kinds.Undefined q e bytes rest fits is = none_takes depth_left trees.undefined bytes rest fits (tt, refl) is
-  value_takes kinds.Null q e bytes rest fits is = none_takes depth_left trees.null bytes rest fits (tt, refl) is
-  value_takes kinds.MaxKey q e bytes rest fits is = none_takes depth_left trees.max_key bytes rest fits (tt, refl) is
-  value_takes kinds.Int32 q e bytes rest fits is =
-      let f = fixed_takes 4 e bytes rest fits is in
-      let n = from_le_bytes w32 f.prefix in
-      let back : number (cast_unsigned w32 (cast_signed w32 n)) ≡ f.prefix = ap number (of_z-to_z w32 n (number_below f.prefix f.fits)) ∙ number_back f.prefix f.size f.fits in
-      leaf_takes depth_left (trees.int32 (cast_signed w32 n)) f.takes (search (arith, ints), sym back)
-  value_takes kinds.Int64 q e bytes rest fits is = let l = long_takes e bytes rest fits is in leaf_takes depth_left (trees.int64 l.0) l.2 (l.1, refl)
-  value_takes kinds.Date q e bytes rest fits is = let l = long_takes e bytes rest fits is in leaf_takes depth_left (trees.date l.0) l.2 (l.1, refl)
-  value_takes kinds.Timestamp q e bytes rest fits is =
-      let f = fixed_takes 8 e bytes rest fits is in
-      let low = split_at_byte 4 f.prefix f.fits (omega (arith, f.size)) in
-      let high_fits = low.takes.rest_fits in
-      let high_size : length (drop 4 f.prefix) ≡ 4 = omega (arith, length-drop 4 f.prefix, f.size) in
-      let whole : number (from_le_bytes w32 (take 4 f.prefix)) ++ number (from_le_bytes w32 (drop 4 f.prefix)) ≡ f.prefix =
-      ap₂ (λ (x y : List ℕ). x ++ y) (number_back (take 4 f.prefix) low.size low.fits) (number_back (drop 4 f.prefix) high_size high_fits) ∙ take-append-drop 4 f.prefix in
-      leaf_takes depth_left (trees.timestamp (from_le_bytes w32 (drop 4 f.prefix)) (from_le_bytes w32 (take 4 f.prefix))) f.takes
-      ((number_below (drop 4 f.prefix) high_fits, number_below (take 4 f.prefix) low.fits), sym whole)
-  value_takes kinds.ObjectId q e bytes rest fits is = let f = fixed_takes 12 e bytes rest fits is in leaf_takes depth_left (trees.object_id f.prefix) f.takes (f.size, refl)
-  value_takes kinds.Bool q e bytes rest fits is = boolean_takes depth_left e bytes rest fits is
-  value_takes kinds.Text q e bytes rest fits is = let s = string_takes e bytes rest fits is in leaf_takes depth_left (trees.text s.text_bytes) s.takes (s.fits, refl)
-  value_takes kinds.Symbol q e bytes rest fits is = let s = string_takes e bytes rest fits is in leaf_takes depth_left (trees.symbol s.text_bytes) s.takes (s.fits, refl)
-  value_takes kinds.Code q e bytes rest fits is = let s = string_takes e bytes rest fits is in leaf_takes depth_left (trees.code s.text_bytes) s.takes (s.fits, refl)
-  value_takes kinds.DbPointer q e bytes rest fits is =
-      let a = bind_ok (skip_string e bytes) _ rest is in
-      let s = string_takes e bytes a.0 fits a.1 in
-      let f = fixed_takes 12 e a.0 rest s.takes.rest_fits a.2 in
-      leaf_takes depth_left (trees.db_pointer s.text_bytes f.prefix) (Takes-then s.takes f.takes) ((s.fits, f.size), refl)
-  value_takes kinds.Binary q e bytes rest fits is = binary_takes depth_left e bytes rest fits is
-  value_takes kinds.Regex q e bytes rest fits is =
-      let a = bind_ok (skip_name StringUnended e bytes) _ rest is in
-      let b = bind_ok (skip_name StringUnended e a.0.1) _ rest a.2 in
-      let p = name_takes StringUnended e bytes a.0 fits a.1 in
-      let o = name_takes StringUnended e a.0.1 b.0 p.0.rest_fits b.1 in
-      rw (← ok_is b.0.1 rest b.2) (leaf_takes depth_left (trees.regex a.0.0 b.0.0) (Takes-then p.0 o.0) ((p.1, o.1), append_assoc a.0.0 (0 ∷ []) (b.0.0 ++ 0 ∷ [])))
-  value_takes kinds.Doc q e bytes rest fits is =
-      let d = below holders.Document q e bytes rest fits is in
-      let low = d.shallow in
-      record { tree = doc d.fields; value = framed d.body; spells = (d.body, d.spell, refl); takes = d.takes; kinded = refl; shallow = omega arith }
-  value_takes kinds.Array q e bytes rest fits is =
-      let d = below holders.Array q e bytes rest fits is in
-      let low = d.shallow in
-      let items = items_from_fields nineteen d.fields d.body d.spell in
-      record { tree = array (items_in d.fields); value = framed d.body; spells = (d.body, items, refl); takes = d.takes; kinded = refl; shallow = omega (arith, items_depth_is d.fields) }
-  value_takes kinds.CodeScope q e bytes rest fits is =
-      let d = below holders.CodeScope q e bytes rest fits is in
-      let low = d.shallow in
-      let value = scoped d.text_bytes (framed d.body) in
-      record { tree = code_scope d.text_bytes d.fields; value = value; spells = (d.body, d.spell, refl, d.text_fits); takes = d.takes; kinded = refl; shallow = omega arith }
+-- ---- scalars
 
-  typed_takes : (type : ElementType) (q e : ℕ) (bytes rest : List ℕ) → IsBytes bytes → skip_typed Named nested type q e bytes ≡ Ok rest
-      → (kind : Kind) × (type ≡ types.Kept kind) × TakesValue depth_left kind bytes rest
-  typed_takes types.Double q e bytes rest fits is = absurd cc
-  typed_takes types.Decimal128 q e bytes rest fits is = absurd cc
-  typed_takes (types.Kept kind) q e bytes rest fits is = (kind, refl, value_takes kind q e bytes rest fits is)
+pub value_takes : (kind : Kind) (q e : ℕ) (bytes rest : List ℕ) → IsBytes bytes → skip_value refused kind q e bytes ≡ Ok rest → TakesScalar kind bytes rest
+value_takes kinds.MinKey q e bytes rest fits is = none_takes trees.min_key bytes rest fits (tt, refl) is
+value_takes kinds.Undefined q e bytes rest fits is = none_takes trees.undefined bytes rest fits (tt, refl) is
+value_takes kinds.Null q e bytes rest fits is = none_takes trees.null bytes rest fits (tt, refl) is
+value_takes kinds.MaxKey q e bytes rest fits is = none_takes trees.max_key bytes rest fits (tt, refl) is
+value_takes kinds.Int32 q e bytes rest fits is =
+    let f = fixed_takes 4 e bytes rest fits is in
+    let n = from_le_bytes w32 f.prefix in
+    let back : number (cast_unsigned w32 (cast_signed w32 n)) ≡ f.prefix = ap number (of_z-to_z w32 n (number_below f.prefix f.fits)) ∙ number_back f.prefix f.size f.fits in
+    scalar_takes (trees.int32 (cast_signed w32 n)) f.takes (search (arith, ints), sym back)
+value_takes kinds.Int64 q e bytes rest fits is = let l = long_takes e bytes rest fits is in scalar_takes (trees.int64 l.0) l.2 (l.1, refl)
+value_takes kinds.Date q e bytes rest fits is = let l = long_takes e bytes rest fits is in scalar_takes (trees.date l.0) l.2 (l.1, refl)
+value_takes kinds.Timestamp q e bytes rest fits is =
+    let f = fixed_takes 8 e bytes rest fits is in
+    let low = split_at_byte 4 f.prefix f.fits (omega (arith, f.size)) in
+    let high_fits = low.takes.rest_fits in
+    let high_size : length (drop 4 f.prefix) ≡ 4 = omega (arith, length-drop 4 f.prefix, f.size) in
+    let whole : number (from_le_bytes w32 (take 4 f.prefix)) ++ number (from_le_bytes w32 (drop 4 f.prefix)) ≡ f.prefix =
+    ap₂ (λ (x y : List ℕ). x ++ y) (number_back (take 4 f.prefix) low.size low.fits) (number_back (drop 4 f.prefix) high_size high_fits) ∙ take-append-drop 4 f.prefix in
+    scalar_takes (trees.timestamp (from_le_bytes w32 (drop 4 f.prefix)) (from_le_bytes w32 (take 4 f.prefix))) f.takes
+    ((number_below (drop 4 f.prefix) high_fits, number_below (take 4 f.prefix) low.fits), sym whole)
+value_takes kinds.ObjectId q e bytes rest fits is = let f = fixed_takes 12 e bytes rest fits is in scalar_takes (trees.object_id f.prefix) f.takes (f.size, refl)
+value_takes kinds.Bool q e bytes rest fits is = boolean_takes e bytes rest fits is
+value_takes kinds.Text q e bytes rest fits is = let s = string_takes e bytes rest fits is in scalar_takes (trees.text s.text_bytes) s.takes (s.fits, refl)
+value_takes kinds.Symbol q e bytes rest fits is = let s = string_takes e bytes rest fits is in scalar_takes (trees.symbol s.text_bytes) s.takes (s.fits, refl)
+value_takes kinds.Code q e bytes rest fits is = let s = string_takes e bytes rest fits is in scalar_takes (trees.code s.text_bytes) s.takes (s.fits, refl)
+value_takes kinds.DbPointer q e bytes rest fits is =
+    let a = bind_ok (skip_string e bytes) _ rest is in
+    let s = string_takes e bytes a.0 fits a.1 in
+    let f = fixed_takes 12 e a.0 rest s.takes.rest_fits a.2 in
+    scalar_takes (trees.db_pointer s.text_bytes f.prefix) (Takes-then s.takes f.takes) ((s.fits, f.size), refl)
+value_takes kinds.Binary q e bytes rest fits is = binary_takes e bytes rest fits is
+value_takes kinds.Regex q e bytes rest fits is =
+    let a = bind_ok (skip_name StringUnended e bytes) _ rest is in
+    let b = bind_ok (skip_name StringUnended e a.0.1) _ rest a.2 in
+    let p = name_takes StringUnended e bytes a.0 fits a.1 in
+    let o = name_takes StringUnended e a.0.1 b.0 p.0.rest_fits b.1 in
+    rw (← ok_is b.0.1 rest b.2) (scalar_takes (trees.regex a.0.0 b.0.0) (Takes-then p.0 o.0) ((p.1, o.1), append_assoc a.0.0 (0 ∷ []) (b.0.0 ++ 0 ∷ [])))
+value_takes kinds.Doc q e bytes rest fits is = absurd cc
+value_takes kinds.Array q e bytes rest fits is = absurd cc
+value_takes kinds.CodeScope q e bytes rest fits is = absurd cc
 
-  pub element_takes : (index : Option ℕ) (e : ℕ) (bytes rest : List ℕ) → IsBytes bytes → skip_element Named nested index e bytes ≡ Ok rest → TakesElement depth_left bytes rest
-  unfolding skip_element
-  element_takes index e [] rest fits is = absurd cc
-  element_takes index e (b ∷ bytes) rest fits is =
-      let q = e - suc (length bytes) in
-      let unknown : Fault = record { kind = UnknownType; offset = q; path = [] } in
-      let f = bind_ok (ok_or (type_at b) unknown) _ rest is in
-      let x = bind_ok (skip_name NameUnended e bytes) _ rest f.2 in
-      let name = x.0.0 in
-      let n = name_takes NameUnended e bytes x.0 (IsBytes-drop 1 (b ∷ bytes) fits) x.1 in
-      let typed = typed_takes f.0 q e x.0.1 rest n.0.rest_fits (within_ok (label index name) (skip_typed Named nested f.0 q e x.0.1) rest x.2) in
-      let v = typed.2 in
-      let same : type_byte (kind_of v.tree) ≡ b = ap type_byte v.kinded ∙ ap byte_stated (sym typed.1) ∙ sym (type_takes unknown b f.0 f.1) in
-      let joined = Takes-then n.0 v.takes in
-      let parts : b ∷ bytes ≡ element v.tree name v.value ++ rest = rw same (ap (λ (x : List ℕ). b ∷ x) (joined.parts ∙ ap (λ (x : List ℕ). x ++ rest) (append_assoc name (0 ∷ []) v.value))) in
-      record { name = name; tree = v.tree; value = v.value; named = n.1; spells = v.spells; takes = record { parts = parts; rest_fits = v.takes.rest_fits }; shallow = v.shallow }
+-- ---- documents by a grammar
 
-  elements_take : (index : Option ℕ) (n e : ℕ) (bytes : List ℕ) → IsBytes bytes → length bytes ≤ n → skip_elements Named nested index n e bytes ≡ Ok tt
-      → (fields : Fields) × AreFields fields bytes × (fields_depth fields ≤ depth_left)
-  unfolding skip_elements
-  elements_take index n e [] fits le is = (no_fields, refl, omega arith)
-  elements_take index zero e (b ∷ bytes) fits le is = absurd (omega arith)
-  elements_take index (suc n) e (b ∷ bytes) fits le is =
-      let a = bind_ok (skip_element Named nested index e (b ∷ bytes)) _ tt is in
-      let r = element_takes index e (b ∷ bytes) a.0 fits a.1 in
-      let less = element_shrinks depth_left (b ∷ bytes) a.0 r in
-      let rec = elements_take (option_map suc index) n e a.0 r.takes.rest_fits (omega (arith, less)) a.2 in
-      (field r.name r.tree rec.0, (r.value, a.0, r.named, r.spells, rec.1, r.takes.parts), omega (arith, r.shallow, rec.2))
+-- a value that was skipped: its tree, the bytes that spell it, and those of them that come after the name
+pub record TakesValue (g : Grammar) (depth_left : ℕ) (type : ElementType) (bytes rest : List ℕ) : Type 0 where
+  pub tree : Tree
+  pub value : List ℕ
+  pub after_name : List ℕ
+  pub spells : IsValueBy g tree value
+  pub written : (name : List ℕ) → g.written tree name value ≡ byte_stated type ∷ (name ++ 0 ∷ after_name)
+  pub takes : Takes bytes after_name rest
+  pub shallow : depth tree ≤ depth_left
 
-  body_takes : (in_array : Bool) (e : ℕ) (bytes rest : List ℕ) → IsBytes bytes → skip_body Named nested in_array e bytes ≡ Ok rest → TakesBody (suc depth_left) bytes rest
-  body_takes in_array e bytes rest fits is =
-      let f = bind_ok (skip_frame false e bytes) _ rest is in
-      let o = bind_ok (skip_elements Named nested (cond in_array (Some 0) None) (length f.0.0) f.0.1 f.0.0) _ rest f.2 in
-      let r = frame_takes false e bytes f.0 fits f.1 in
-      let all = elements_take (cond in_array (Some 0) None) (length f.0.0) f.0.1 f.0.0 r.body_fits (omega arith) o.1 in
-      rw (← ok_is f.0.2 rest o.2) (record { fields = all.0; body = f.0.0; spell = all.1; takes = r.takes; shallow = omega (arith, all.2) })
+-- Under the profile each scalar that is skipped is one of the grammar, and the values that hold others are written as ever.
+pub record Spelled (p : Profile) (g : Grammar) : Type 0 where
+  pub scalar : (type : ElementType) (q e : ℕ) (bytes rest : List ℕ) → IsBytes bytes → skip_typed p refused type q e bytes ≡ Ok rest → TakesValue g 0 type bytes rest
+  pub holder : (t : Tree) (name value : List ℕ) → is_holder (kind_of t) ≡ true → g.written t name value ≡ element t name value
 
-  code_takes : (q e : ℕ) (bytes rest : List ℕ) → IsBytes bytes → skip_code_scope nested q e bytes ≡ Ok rest → TakesCode (suc depth_left) bytes rest
-  code_takes q e bytes rest fits is =
-      let f = bind_ok (skip_code_frame e bytes) _ rest is in
-      let s = bind_ok (skip_string f.0.1 f.0.0) _ rest f.2 in
-      let d = bind_ok (within (codes "$scope") (nested holders.Document q f.0.1 s.0)) _ rest s.2 in
-      let z = guard_ok (ltb 0 (length d.0)) _ (done f.0.2) rest d.2 in
-      let frame = code_frame_takes e bytes f.0 fits f.1 in
-      let code = string_takes f.0.1 f.0.0 s.0 frame.1 s.1 in
-      let scope = below holders.Document q f.0.1 s.0 d.0 code.takes.rest_fits (within_ok (codes "$scope") (nested holders.Document q f.0.1 s.0) d.0 d.1) in
-      let both = Takes-then code.takes scope.takes in
-      let parts = string code.text_bytes ++ framed scope.body in
-      let whole : f.0.0 ≡ parts = both.parts ∙ ap (λ (x : List ℕ). parts ++ x) (nil_from_length d.0 (omega (arith, ltb-false _ _ z.0))) ∙ append-nil parts in
-      let low = scope.shallow in
-      rw (← ok_is f.0.2 rest z.1) (record {
-        text_bytes = code.text_bytes;
-        fields = scope.fields;
-        body = scope.body;
-        text_fits = code.fits;
-        spell = scope.spell;
-        takes = subst (λ (x : List ℕ). Takes bytes (number (length x + 4) ++ x) f.0.2) whole frame.0;
-        shallow = omega arith;
-      })
+module _ (p : Profile) (g : Grammar) (spelled : Spelled p g) where
+  -- a document or an array that was skipped, with n levels remaining: elements whose names an array drops
+  record TakesBody (depth_left : ℕ) (bytes rest : List ℕ) : Type 0 where
+    pub fields : Fields
+    pub body : List ℕ
+    pub spell : AreFieldsBy g fields body
+    pub takes : Takes bytes (framed body) rest
+    pub shallow : fields_depth fields < depth_left
 
-pub nested_takes : (depth_left : ℕ) → NestedTakes depth_left (skip_nested Named depth_left)
-unfolding skip_nested
-nested_takes zero holder q e bytes rest fits is = absurd cc
-nested_takes (suc depth_left) holders.Document q e bytes rest fits is = body_takes depth_left (skip_nested Named depth_left) (nested_takes depth_left) false e bytes rest fits is
-nested_takes (suc depth_left) holders.Array q e bytes rest fits is = body_takes depth_left (skip_nested Named depth_left) (nested_takes depth_left) true e bytes rest fits is
-nested_takes (suc zero) holders.CodeScope q e bytes rest fits is = absurd cc
-nested_takes (suc (suc depth_left)) holders.CodeScope q e bytes rest fits is = code_takes (suc depth_left) (skip_nested Named (suc depth_left)) (nested_takes (suc depth_left)) q e bytes rest fits is
+  -- code with scope that was skipped
+  record TakesCode (depth_left : ℕ) (bytes rest : List ℕ) : Type 0 where
+    pub text_bytes : List ℕ
+    pub fields : Fields
+    pub body : List ℕ
+    pub text_fits : IsText text_bytes
+    pub spell : AreFieldsBy g fields body
+    pub takes : Takes bytes (scoped text_bytes (framed body)) rest
+    pub shallow : suc (fields_depth fields) < depth_left
+
+  abbrev TakesHolder : Holder → ℕ → List ℕ → List ℕ → Type 0
+  TakesHolder holders.Document = TakesBody
+  TakesHolder holders.Array = TakesBody
+  TakesHolder holders.CodeScope = TakesCode
+
+  abbrev NestedTakes : ℕ → Nested → Type 0
+  NestedTakes depth_left nested = (holder : Holder) (q e : ℕ) (bytes rest : List ℕ) → IsBytes bytes → nested holder q e bytes ≡ Ok rest → TakesHolder holder depth_left bytes rest
+
+  record TakesElement (depth_left : ℕ) (bytes rest : List ℕ) : Type 0 where
+    pub name : List ℕ
+    pub tree : Tree
+    pub value : List ℕ
+    pub named : IsName name
+    pub spells : IsValueBy g tree value
+    pub takes : Takes bytes (g.written tree name value) rest
+    pub shallow : depth tree ≤ depth_left
+    pub some : 1 ≤ length (g.written tree name value)
+
+  -- if the values one level down are known
+  module _ (depth_left : ℕ) (nested : Nested) (below : NestedTakes depth_left nested) where
+    typed_takes : (type : ElementType) (q e : ℕ) (bytes rest : List ℕ) → IsBytes bytes → skip_typed p nested type q e bytes ≡ Ok rest → TakesValue g depth_left type bytes rest
+    typed_takes (types.Kept kinds.Doc) q e bytes rest fits is =
+        let d = below holders.Document q e bytes rest fits is in
+        record { tree = doc d.fields; value = framed d.body; after_name = framed d.body; spells = (d.body, d.spell, refl); written = λ name. spelled.holder (doc d.fields) name (framed d.body) refl; takes = d.takes; shallow = omega (arith, d.shallow) }
+    typed_takes (types.Kept kinds.Array) q e bytes rest fits is =
+        let d = below holders.Array q e bytes rest fits is in
+        let t = array (items_in d.fields) in
+        let items = items_from_fields g d.fields d.body d.spell in
+        record { tree = t; value = framed d.body; after_name = framed d.body; spells = (d.body, items, refl); written = λ name. spelled.holder t name (framed d.body) refl; takes = d.takes; shallow = omega (arith, d.shallow, items_depth_is d.fields) }
+    typed_takes (types.Kept kinds.CodeScope) q e bytes rest fits is =
+        let d = below holders.CodeScope q e bytes rest fits is in
+        let t = code_scope d.text_bytes d.fields in
+        let value = scoped d.text_bytes (framed d.body) in
+        record { tree = t; value = value; after_name = value; spells = (d.body, d.spell, refl, d.text_fits); written = λ name. spelled.holder t name value refl; takes = d.takes; shallow = omega (arith, d.shallow) }
+    typed_takes type q e bytes rest fits is =
+        let v = spelled.scalar type q e bytes rest fits is in
+        record { tree = v.tree; value = v.value; after_name = v.after_name; spells = v.spells; written = v.written; takes = v.takes; shallow = omega (arith, v.shallow) }
+
+    element_takes : (index : Option ℕ) (e : ℕ) (bytes rest : List ℕ) → IsBytes bytes → skip_element p nested index e bytes ≡ Ok rest → TakesElement depth_left bytes rest
+    unfolding skip_element
+    element_takes index e [] rest fits is = absurd cc
+    element_takes index e (b ∷ bytes) rest fits is =
+        let q = e - suc (length bytes) in
+        let unknown : Fault = record { kind = UnknownType; offset = q; path = [] } in
+        let f = bind_ok (ok_or (type_at b) unknown) _ rest is in
+        let x = bind_ok (skip_name NameUnended e bytes) _ rest f.2 in
+        let name = x.0.0 in
+        let n = name_takes NameUnended e bytes x.0 (IsBytes-drop 1 (b ∷ bytes) fits) x.1 in
+        let v = typed_takes f.0 q e x.0.1 rest n.0.rest_fits (within_ok (label index name) (skip_typed p nested f.0 q e x.0.1) rest x.2) in
+        let whole : g.written v.tree name v.value ≡ b ∷ (name ++ 0 ∷ v.after_name) =
+        v.written name ∙ ap (λ (k : ℕ). k ∷ (name ++ 0 ∷ v.after_name)) (sym (type_takes unknown b f.0 f.1)) in
+        let joined = Takes-then n.0 v.takes in
+        let parts : b ∷ bytes ≡ g.written v.tree name v.value ++ rest =
+        ap (λ (x : List ℕ). b ∷ x) (joined.parts ∙ ap (λ (x : List ℕ). x ++ rest) (append_assoc name (0 ∷ []) v.after_name)) ∙ ap (λ (x : List ℕ). x ++ rest) (sym whole) in
+        record {
+          name = name;
+          tree = v.tree;
+          value = v.value;
+          named = n.1;
+          spells = v.spells;
+          takes = record { parts = parts; rest_fits = v.takes.rest_fits };
+          shallow = v.shallow;
+          some = omega (arith, ap (λ (x : List ℕ). length x) whole);
+        }
+
+    elements_take : (index : Option ℕ) (n e : ℕ) (bytes : List ℕ) → IsBytes bytes → length bytes ≤ n → skip_elements p nested index n e bytes ≡ Ok tt
+        → (fields : Fields) × AreFieldsBy g fields bytes × (fields_depth fields ≤ depth_left)
+    unfolding skip_elements
+    elements_take index n e [] fits le is = (no_fields, refl, omega arith)
+    elements_take index zero e (b ∷ bytes) fits le is = absurd (omega arith)
+    elements_take index (suc n) e (b ∷ bytes) fits le is =
+        let a = bind_ok (skip_element p nested index e (b ∷ bytes)) _ tt is in
+        let r = element_takes index e (b ∷ bytes) a.0 fits a.1 in
+        let size : suc (length bytes) ≡ length (g.written r.tree r.name r.value) + length a.0 =
+        ap (λ (x : List ℕ). length x) r.takes.parts ∙ length-append (g.written r.tree r.name r.value) a.0 in
+        let rec = elements_take (option_map suc index) n e a.0 r.takes.rest_fits (omega (arith, size, r.some, le)) a.2 in
+        (field r.name r.tree rec.0, (r.value, a.0, r.named, r.spells, rec.1, r.takes.parts), omega (arith, r.shallow, rec.2))
+
+    body_takes : (in_array : Bool) (e : ℕ) (bytes rest : List ℕ) → IsBytes bytes → skip_body p nested in_array e bytes ≡ Ok rest → TakesBody (suc depth_left) bytes rest
+    body_takes in_array e bytes rest fits is =
+        let f = bind_ok (skip_frame false e bytes) _ rest is in
+        let o = bind_ok (skip_elements p nested (cond in_array (Some 0) None) (length f.0.0) f.0.1 f.0.0) _ rest f.2 in
+        let r = frame_takes false e bytes f.0 fits f.1 in
+        let all = elements_take (cond in_array (Some 0) None) (length f.0.0) f.0.1 f.0.0 r.body_fits (omega arith) o.1 in
+        rw (← ok_is f.0.2 rest o.2) (record { fields = all.0; body = f.0.0; spell = all.1; takes = r.takes; shallow = omega (arith, all.2) })
+
+    code_takes : (q e : ℕ) (bytes rest : List ℕ) → IsBytes bytes → skip_code_scope nested q e bytes ≡ Ok rest → TakesCode (suc depth_left) bytes rest
+    code_takes q e bytes rest fits is =
+        let f = bind_ok (skip_code_frame e bytes) _ rest is in
+        let s = bind_ok (skip_string f.0.1 f.0.0) _ rest f.2 in
+        let d = bind_ok (within (codes "$scope") (nested holders.Document q f.0.1 s.0)) _ rest s.2 in
+        let z = guard_ok (ltb 0 (length d.0)) _ (done f.0.2) rest d.2 in
+        let frame = code_frame_takes e bytes f.0 fits f.1 in
+        let code = string_takes f.0.1 f.0.0 s.0 frame.1 s.1 in
+        let scope = below holders.Document q f.0.1 s.0 d.0 code.takes.rest_fits (within_ok (codes "$scope") (nested holders.Document q f.0.1 s.0) d.0 d.1) in
+        let both = Takes-then code.takes scope.takes in
+        let parts = string code.text_bytes ++ framed scope.body in
+        let whole : f.0.0 ≡ parts = both.parts ∙ ap (λ (x : List ℕ). parts ++ x) (nil_from_length d.0 (omega (arith, ltb-false _ _ z.0))) ∙ append-nil parts in
+        let low = scope.shallow in
+        rw (← ok_is f.0.2 rest z.1) (record {
+          text_bytes = code.text_bytes;
+          fields = scope.fields;
+          body = scope.body;
+          text_fits = code.fits;
+          spell = scope.spell;
+          takes = subst (λ (x : List ℕ). Takes bytes (number (length x + 4) ++ x) f.0.2) whole frame.0;
+          shallow = omega arith;
+        })
+
+  nested_takes : (depth_left : ℕ) → NestedTakes depth_left (skip_nested p depth_left)
+  unfolding skip_nested
+  nested_takes zero holder q e bytes rest fits is = absurd cc
+  nested_takes (suc depth_left) holders.Document q e bytes rest fits is = body_takes depth_left (skip_nested p depth_left) (nested_takes depth_left) false e bytes rest fits is
+  nested_takes (suc depth_left) holders.Array q e bytes rest fits is = body_takes depth_left (skip_nested p depth_left) (nested_takes depth_left) true e bytes rest fits is
+  nested_takes (suc zero) holders.CodeScope q e bytes rest fits is = absurd cc
+  nested_takes (suc (suc depth_left)) holders.CodeScope q e bytes rest fits is = code_takes (suc depth_left) (skip_nested p (suc depth_left)) (nested_takes (suc depth_left)) q e bytes rest fits is
+
+  -- the bytes of a document without a fault spell it
+  pub document_spelled : (e : ℕ) (bytes : List ℕ) → IsBytes bytes → skip_document p e bytes ≡ Ok tt → (d : Doc) × IsDocumentBy g d bytes
+  unfolding skip_document
+  document_spelled e bytes fits is =
+      let f = bind_ok (skip_frame true e bytes) _ tt is in
+      let r = frame_takes true e bytes f.0 fits f.1 in
+      let levels = most_levels - 1 in
+      let all = elements_take levels (skip_nested p levels) (nested_takes levels) None (length f.0.0) f.0.1 f.0.0 r.body_fits (omega arith) f.2 in
+      let whole : bytes ≡ framed f.0.0 = r.takes.parts ∙ ap (λ (x : List ℕ). framed f.0.0 ++ x) (r.whole refl) ∙ append-nil (framed f.0.0) in
+      let same = fields_of-pairs_of all.0 in
+      let spells : IsValueBy g (doc (fields_of (pairs_of all.0))) bytes = (f.0.0, rw same all.1, whole) in
+      (pairs_of all.0, record { spells = spells; short = omega (arith, ap (λ (x : List ℕ). length x) whole, r.short); shallow = omega (arith, all.2, ap fields_depth same) })
+
+-- of the nineteen kinds
+nineteen_scalar : (type : ElementType) (q e : ℕ) (bytes rest : List ℕ) → IsBytes bytes → skip_typed Named refused type q e bytes ≡ Ok rest → TakesValue nineteen 0 type bytes rest
+nineteen_scalar types.Double q e bytes rest fits is = absurd cc
+nineteen_scalar types.Decimal128 q e bytes rest fits is = absurd cc
+nineteen_scalar (types.Kept kind) q e bytes rest fits is =
+    let v = value_takes kind q e bytes rest fits is in
+    record {
+      tree = leaf v.scalar;
+      value = v.value;
+      after_name = v.value;
+      spells = v.spells;
+      written = λ name. ap (λ (k : Kind). type_byte k ∷ (name ++ 0 ∷ v.value)) v.kinded;
+      takes = v.takes;
+      shallow = omega arith;
+    }
+
+-- a document without a fault is spelled by the bytes
+pub document_found : (e : ℕ) (bytes : List ℕ) → IsBytes bytes → skip_document Named e bytes ≡ Ok tt → (d : Doc) × IsDocument d bytes
+document_found = document_spelled Named nineteen (record { scalar = nineteen_scalar; holder = λ t name value is_one. refl })
 
 -- ---- what an item leaves, under any profile
 
@@ -541,12 +600,6 @@ NestedLeaves nested = (holder : Holder) (q e : ℕ) (bytes rest : List ℕ) → 
 no_more : (bytes text rest : List ℕ) → Takes bytes text rest → length rest ≤ length bytes
 no_more bytes text rest t = omega (arith, ap length t.parts, length-append text rest)
 
-abbrev pub refused : Nested
-refused holder q e bytes = fault UnknownType q
-
-pub refused_takes : NestedTakes 0 refused
-refused_takes holder q e bytes rest fits is = absurd cc
-
 wide_leaves : (p : Profile) (kind : FaultKind) (n q e : ℕ) (bytes rest : List ℕ) → IsBytes bytes → skip_wide p kind n q e bytes ≡ Ok rest → Leaves bytes rest
 wide_leaves Named kind n q e bytes rest fits is = absurd cc
 wide_leaves All kind n q e bytes rest fits is = let f = fixed_takes n e bytes rest fits is in (f.prefix, f.takes)
@@ -556,7 +609,7 @@ module _ (p : Profile) (nested : Nested) (below : NestedLeaves nested) where
   value_leaves kinds.Doc q e bytes rest fits is = below holders.Document q e bytes rest fits is
   value_leaves kinds.Array q e bytes rest fits is = below holders.Array q e bytes rest fits is
   value_leaves kinds.CodeScope q e bytes rest fits is = below holders.CodeScope q e bytes rest fits is
-  value_leaves kind q e bytes rest fits is = let v = value_takes 0 refused refused_takes kind q e bytes rest fits is in (v.value, v.takes)
+  value_leaves kind q e bytes rest fits is = let v = value_takes kind q e bytes rest fits is in (v.value, v.takes)
 
   typed_leaves : (type : ElementType) (q e : ℕ) (bytes rest : List ℕ) → IsBytes bytes → skip_typed p nested type q e bytes ≡ Ok rest → Leaves bytes rest
   typed_leaves types.Double q e bytes rest fits is = wide_leaves p Double 8 q e bytes rest fits is
@@ -598,19 +651,6 @@ nested_leaves p (suc depth_left) holders.Array q e bytes rest fits is = body_lea
 nested_leaves p (suc zero) holders.CodeScope q e bytes rest fits is = absurd cc
 nested_leaves p (suc (suc depth_left)) holders.CodeScope q e bytes rest fits is =
     code_leaves p (skip_nested p (suc depth_left)) (nested_leaves p (suc depth_left)) q e bytes rest fits is
-
--- a document without a fault is spelled by the bytes
-pub document_found : (e : ℕ) (bytes : List ℕ) → IsBytes bytes → skip_document Named e bytes ≡ Ok tt → (d : Doc) × IsDocument d bytes
-unfolding skip_document
-document_found e bytes fits is =
-    let f = bind_ok (skip_frame true e bytes) _ tt is in
-    let r = frame_takes true e bytes f.0 fits f.1 in
-    let levels = most_levels - 1 in
-    let all = elements_take levels (skip_nested Named levels) (nested_takes levels) None (length f.0.0) f.0.1 f.0.0 r.body_fits (omega arith) f.2 in
-    let whole : bytes ≡ framed f.0.0 = r.takes.parts ∙ ap (λ (x : List ℕ). framed f.0.0 ++ x) (r.whole refl) ∙ append-nil (framed f.0.0) in
-    let same = fields_of-pairs_of all.0 in
-    let spells : IsValue (doc (fields_of (pairs_of all.0))) bytes = (f.0.0, rw same all.1, whole) in
-    (pairs_of all.0, record { spells = spells; short = omega (arith, ap length whole, r.short); shallow = omega (arith, all.2, ap fields_depth same) })
 
 number_again : (short : FaultKind) (e n : ℕ) (rest : List ℕ) → n < 2 ^ 32 → skip_number short e (number n ++ rest) ≡ Ok (n, rest)
 number_again short e n rest lt =
