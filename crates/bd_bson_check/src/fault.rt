@@ -6,11 +6,11 @@ ghost use Rattle.bd_bson_check.specs.inside.Fault.{ReportsStop, IsOf};
 ghost use Rattle.bd_bson_check.specs.FirstFault.{label};
 
 use std::alloc::{AllocError, Global};
+use std::fmt::{self, Display, Formatter, Write};
 use thiserror::Error;
 
 /// Which check failed first.
-#[derive(Clone, Copy, Debug, Drop, PartialEq, Eq, Error)]
-#[error("{}", self.words())]
+#[derive(Clone, Copy, Debug, Drop, PartialEq, Eq)]
 pub enum FaultKind {
     /// Fewer than the four bytes of a document's length remain.
     ShortLength = 1,
@@ -46,6 +46,15 @@ pub enum FaultKind {
     DumpTooLong = 16,
     /// Memory ran out.
     NoMemory = 17,
+}
+
+impl std::error::Error for FaultKind {}
+
+impl Display for FaultKind {
+    /// Writes the message.
+    fn fmt<W: Write>(&self, out: &mut Formatter<W>) -> fmt::Result {
+        out.write_str(self.words())
+    }
 }
 
 /// The messages, by number, from 1 on.

@@ -6,7 +6,8 @@ ghost use Rattle.bd_cli_command.specs.declared.command.CommandFault.TheVariants.
 
 use bd_value::Document;
 use std::alloc::AllocError;
-use thiserror::Error;
+use std::error::Error;
+use std::fmt::{self, Display, Formatter, Write};
 
 /// A command of `serve`.
 #[derive(Drop)]
@@ -70,8 +71,7 @@ pub enum Hint {
 }
 
 /// The first fault of a document that is no command.
-#[derive(Clone, Copy, Debug, Drop, PartialEq, Eq, Error)]
-#[error("{}", self.words())]
+#[derive(Clone, Copy, Debug, Drop, PartialEq, Eq)]
 pub enum CommandFault {
     /// The first name is no command, or there is none.
     UnknownCommand = 1,
@@ -85,6 +85,15 @@ pub enum CommandFault {
     BadField = 5,
     /// Memory ran out.
     NoMemory = 6,
+}
+
+impl Error for CommandFault {}
+
+impl Display for CommandFault {
+    /// Writes the message.
+    fn fmt<W: Write>(&self, out: &mut Formatter<W>) -> fmt::Result {
+        out.write_str(self.words())
+    }
 }
 
 /// The messages by number, from 1 on.

@@ -7,7 +7,8 @@ ghost use Rattle.bd_cursor_request.specs.declared.results.Refused.TheVariants.{N
 use crate::token::Token;
 use bd_query_filter::FilterFault;
 use std::alloc::{AllocError, AllocFailed};
-use thiserror::Error;
+use std::error::Error;
+use std::fmt::{self, Display, Formatter, Write};
 
 /// One batch of a cursor.
 #[derive(Debug, Drop)]
@@ -30,8 +31,7 @@ pub struct Made {
 }
 
 /// Why a request, a token or a call of a session is refused.
-#[derive(Debug, Drop, Error)]
-#[error("{}", self.words())]
+#[derive(Debug, Drop)]
 pub enum Refused {
     /// A sort that is not `{}` and not one to four pairs of distinct paths, each with 1 or -1.
     BadSort,
@@ -57,6 +57,15 @@ pub enum Refused {
     NoMemory,
     /// A document that is no filter.
     BadFilter(FilterFault),
+}
+
+impl Error for Refused {}
+
+impl Display for Refused {
+    /// Writes the message.
+    fn fmt<W: Write>(&self, out: &mut Formatter<W>) -> fmt::Result {
+        out.write_str(self.words())
+    }
 }
 
 /// The messages by number, from 1 on. A filter has the message of its fault.

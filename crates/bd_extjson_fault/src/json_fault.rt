@@ -2,11 +2,11 @@
 ghost use Rattle.std.specs.Prelude.{◌≡◌};
 ghost use Rattle.bd_extjson_fault.specs.JsonFault.{json_fault_number, json_fault_words};
 
+use std::fmt::{self, Display, Formatter, Write};
 use thiserror::Error;
 
 /// Which rule a text breaks: JSON (RFC 8259), then Extended JSON v2.
-#[derive(Clone, Copy, Debug, Drop, PartialEq, Eq, Error)]
-#[error("{}", self.words())]
+#[derive(Clone, Copy, Debug, Drop, PartialEq, Eq)]
 pub enum JsonFaultKind {
     /// It is not JSON, or it is not UTF-8.
     Syntax = 1,
@@ -26,6 +26,15 @@ pub enum JsonFaultKind {
     TrailingText = 8,
     /// Memory ran out.
     NoMemory = 9,
+}
+
+impl std::error::Error for JsonFaultKind {}
+
+impl Display for JsonFaultKind {
+    /// Writes the message.
+    fn fmt<W: Write>(&self, out: &mut Formatter<W>) -> fmt::Result {
+        out.write_str(self.words())
+    }
 }
 
 /// The messages, by number, from 1 on.

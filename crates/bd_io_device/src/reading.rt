@@ -5,7 +5,8 @@ ghost use Rattle.bd_io_device.specs.Devices.{AreReads, FailsToFill, FillsBuffer,
 
 use crate::input::Input;
 use std::alloc::Global;
-use thiserror::Error;
+use std::error::Error;
+use std::fmt::{self, Display, Formatter, Write};
 
 /// How much may be read from a device.
 #[derive(Debug, Clone, Copy, PartialEq, Eq)]
@@ -17,8 +18,7 @@ pub struct Limits {
 }
 
 /// Why a device was not read to its end.
-#[derive(Debug, Clone, Copy, Drop, PartialEq, Eq, Error)]
-#[error("{}", self.words())]
+#[derive(Debug, Clone, Copy, Drop, PartialEq, Eq)]
 pub enum ReadFault {
     /// A read failed.
     Device = 1,
@@ -28,6 +28,15 @@ pub enum ReadFault {
     TooManyTurns = 3,
     /// Memory ran out.
     NoMemory = 4,
+}
+
+impl Error for ReadFault {}
+
+impl Display for ReadFault {
+    /// Writes the message.
+    fn fmt<W: Write>(&self, out: &mut Formatter<W>) -> fmt::Result {
+        out.write_str(self.words())
+    }
 }
 
 const CANNOT_READ: &str = "cannot read";

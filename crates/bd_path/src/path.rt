@@ -10,7 +10,8 @@ ghost use Rattle.bd_path.specs.declared.path.PathFault.TheVariants as faults;
 use crate::component::Component;
 use bd_value::{MOST_NAMES, NoMemory};
 use std::alloc::{AllocError, AllocFailed, Global};
-use thiserror::Error;
+use std::error::Error;
+use std::fmt::{self, Display, Formatter, Write};
 
 /// A path: one to a hundred names, none empty, with a full stop between them.
 #[derive(Drop)]
@@ -141,8 +142,7 @@ fn copied(alloc: Global, components: &[Component]) -> Result<Vec<Component>, NoM
 }
 
 /// Why a text is not a path.
-#[derive(Clone, Copy, Debug, Drop, PartialEq, Eq, Error)]
-#[error("{}", self.words())]
+#[derive(Clone, Copy, Debug, Drop, PartialEq, Eq)]
 pub enum PathFault {
     /// A full stop is first, last or after another, or the text is empty.
     EmptyComponent = 1,
@@ -150,6 +150,15 @@ pub enum PathFault {
     TooLong = 2,
     /// Memory ran out.
     NoMemory = 3,
+}
+
+impl Error for PathFault {}
+
+impl Display for PathFault {
+    /// Writes the message.
+    fn fmt<W: Write>(&self, out: &mut Formatter<W>) -> fmt::Result {
+        out.write_str(self.words())
+    }
 }
 
 /// The messages, by number, from 1 on.

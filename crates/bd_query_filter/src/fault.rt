@@ -6,11 +6,11 @@ ghost use Rattle.bd_query_filter.specs.inside.Fault.{ReportsMisfit};
 ghost use Rattle.bd_query_filter.specs.declared.fault.Stop.TheVariants.{NoMemory};
 
 use std::alloc::{AllocError, AllocFailed, Global};
+use std::fmt::{self, Display, Formatter, Write};
 use thiserror::Error;
 
 /// Which rule a pair or a member breaks.
-#[derive(Clone, Copy, Debug, Drop, PartialEq, Eq, Error)]
-#[error("{}", self.words())]
+#[derive(Clone, Copy, Debug, Drop, PartialEq, Eq)]
 pub enum FilterFaultKind {
     /// A name with a dollar sign that is not an operator, or an operator that is not allowed there.
     UnknownOperator = 1,
@@ -26,6 +26,15 @@ pub enum FilterFaultKind {
     TooDeep = 6,
     /// Memory ran out.
     NoMemory = 7,
+}
+
+impl std::error::Error for FilterFaultKind {}
+
+impl Display for FilterFaultKind {
+    /// Writes the message.
+    fn fmt<W: Write>(&self, out: &mut Formatter<W>) -> fmt::Result {
+        out.write_str(self.words())
+    }
 }
 
 /// The messages, by number, from 1 on.
