@@ -87,6 +87,7 @@ element_within old body out piece rest whole =
 
 -- ---- code with scope
 
+-- a value that has a scope is code with that scope
 pub code_parts : (t u : Tree) (o : Leaf) → leaf_of t ≡ Some o → scope_of t ≡ Some u → (s : List ℕ) × (fs : Fields) × (t ≡ code_scope s fs) × (o ≡ code_leaf s) × (u ≡ doc fs)
 code_parts (code_scope s fs) u o scalar_leaf scope = (s, fs, refl, cc, cc)
 code_parts _ u o scalar_leaf scope = absurd cc
@@ -131,7 +132,8 @@ zero_in_elements (p ∷ ps) = ap (λ z. zero_in p.1 || z) (zero_in_elements ps)
 is_text : (s : List ℕ) → IsUtf8 s → length (string s) ≤ longest_document → IsText s
 is_text s utf8 short = (utf8, omega (arith, string_length s, short))
 
-element_size : (t : Tree) (name value : List ℕ) → length (element t name value) ≡ length name + (length value + 2)
+-- how many bytes an element has
+pub element_size : (t : Tree) (name value : List ℕ) → length (element t name value) ≡ length name + (length value + 2)
 element_size t name value = omega (arith, length-append name (0 ∷ value))
 
 index_name : (n : ℕ) → n < 2 ^ 64 → IsName (decimal n)

@@ -1,1 +1,2 @@
 pub mod TreeBytes
+pub mod inside

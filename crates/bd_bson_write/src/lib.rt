@@ -12,10 +12,12 @@
 //! ```
 //!
 //! - `write`: `write_document`, and a document written in pieces.
+//! - `counting`: how many bytes a document has, counted before any is written.
 //! - `laws`: the bytes written for a document spell it.
 //! - `writing`: values, scalars and their parts, which `bd_extjson_pack` writes too, and why a document is not written.
 #![tactic(auto)]
 
+mod counting;
 mod laws;
 mod write;
 mod writing;

@@ -9,6 +9,7 @@ ghost use Rattle.bd_value.specs.View.{pairs};
 ghost use Rattle.bd_bson_view.specs.Spelling.{IsDocument, IsValue, framed, number, string};
 ghost use Rattle.bd_bson_write.specs.TreeBytes.{SpellsPlainly, bytes_of, OverrunsLimit};
 
+use crate::counting::remaining_after;
 use crate::writing::{WriteFault, append_number, put_value, seal};
 use bd_value::{
     Document, Kind, LONGEST_DOCUMENT, MOST_LEVELS, NoMemory, Reading, Scalar, Tree, depth, has_zero,
@@ -22,7 +23,7 @@ use std::alloc::Global;
 /// - `WriteFault::TooDeep`: it nests deeper than 200 levels;
 /// - `WriteFault::NulInName`: a name, or a text of a regular expression, contains a zero, which would end it;
 /// - `WriteFault::TooLong`: it has more than 16,793,600 bytes;
-/// - `WriteFault::NoMemory`: memory ran out.
+/// - `WriteFault::NoMemory`: memory ran out. The bytes are counted first, so memory is asked for them once.
 pub fn write_document(alloc: Global, document: &Document) -> Result<Vec<u8>, WriteFault>
     ensures written { IfOk result (λ v. SpellsPlainly (pairs document.now) v.items) }
     ensures spelled { IfOk result (λ v. IsDocument (pairs document.now) v.items) }
@@ -31,10 +32,10 @@ pub fn write_document(alloc: Global, document: &Document) -> Result<Vec<u8>, Wri
     ensures zero { IsErrOf result WriteFault.NulInName
         ↔ ((depth_in (doc (fields_of (pairs document.now))) ≤ most_levels)
         × (zero_in (doc (fields_of (pairs document.now))) ≡ true)) }
-    ensures too_long { IsErrOf result WriteFault.TooLong →
-        (depth_in (doc (fields_of (pairs document.now))) ≤ most_levels)
+    ensures too_long { IsErrOf result WriteFault.TooLong
+        ↔ ((depth_in (doc (fields_of (pairs document.now))) ≤ most_levels)
         × (zero_in (doc (fields_of (pairs document.now))) ≡ false)
-        × (longest_document < length (bytes_of (doc (fields_of (pairs document.now))))) }
+        × (longest_document < length (bytes_of (doc (fields_of (pairs document.now)))))) }
 {
     if depth(document) > MOST_LEVELS as u64 {
         return Err(WriteFault::TooDeep);
@@ -42,11 +43,11 @@ pub fn write_document(alloc: Global, document: &Document) -> Result<Vec<u8>, Wri
     if contains_zero(Tree::Doc(document)) {
         return Err(WriteFault::NulInName);
     }
-    let mut bytes = Vec::new(alloc);
-    put_value(Tree::Doc(document), &mut bytes)?;
-    if bytes.len() > LONGEST_DOCUMENT {
+    let Some(remaining) = remaining_after(Tree::Doc(document), LONGEST_DOCUMENT) else {
         return Err(WriteFault::TooLong);
-    }
+    };
+    let mut bytes = Vec::with_capacity(alloc, LONGEST_DOCUMENT - remaining)?;
+    put_value(Tree::Doc(document), &mut bytes)?;
     Ok(bytes)
 }
 
