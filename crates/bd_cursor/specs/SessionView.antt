@@ -1,5 +1,5 @@
 -- A session as the state of the machine.
-use Rattle.std.specs.Prelude.{◌≡◌, ◌-◌, ℕ, Bool, List, drop, map, option_map, Option, Some, None}
+use Rattle.std.specs.Prelude.{◌≡◌, ◌≢◌, ◌-◌, ℕ, Bool, List, [], drop, map, option_map, Option, Some, None}
 use Rattle.std.specs.Prelude.{Result, Ok, Err}
 use Rattle.std.specs.List.{cons_option, filter, range_with_len}
 use Rattle.bd_value.specs.Tree.{Doc}
@@ -83,10 +83,10 @@ make_index sparse dump path = make_of (documents dump) (path_index_key sparse pa
 abbrev pub explain_request : Dump → Request → Choice → Call
 explain_request dump r choice = explain_call (hint_of choice) (explanation_of (documents dump) r choice)
 
--- The reply grants a call that needs memory.
+-- The reply grants a call that needs memory; an empty batch needs none.
 abbrev pub TakesMemory : Reply → Type 0
 TakesMemory (opened id) = Unit {0}
-TakesMemory (gave batch) = Unit {0}
+TakesMemory (gave batch) = batch.places ≢ []
 TakesMemory (made counts) = Unit {0}
 TakesMemory (explained e) = Unit {0}
 TakesMemory reply = ⊥

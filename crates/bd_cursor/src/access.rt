@@ -1,6 +1,6 @@
 //! How documents are reached: by which index, or without one.
 
-ghost use Rattle.std.specs.Prelude.{◌≡◌, ◌≤◌, ◌<◌, ◌↔◌, IfErr, IfOk, IfSome, IsOk, IsTrue, List, OnErr, OnOk, Some, drop, if◌then◌else◌, is_some, length, map, position, take, unwrap_or, ℕ};
+ghost use Rattle.std.specs.Prelude.{[], ◌≡◌, ◌≤◌, ◌<◌, ◌↔◌, IfErr, IfOk, IfSome, IsOk, IsTrue, List, OnErr, OnOk, Some, drop, if◌then◌else◌, is_some, length, map, position, take, unwrap_or, ℕ};
 ghost use Rattle.std.specs.Option.{option_or};
 ghost use Rattle.std.specs.List.Sorted.{IsStrictlyIncreasing};
 ghost use Rattle.bd_cursor_model.specs.Answer.{at_most, is_empty};
@@ -294,14 +294,16 @@ impl PlaceList {
         PlaceList { places, at }
     }
 
-    /// Takes the next n places, or all that remain if there are fewer.
+    /// Takes the next n places, or all that remain if there are fewer. If these are none, it takes no memory.
     pub(crate) fn take(&mut self, alloc: Global, n: u64) -> Result<Vec<u32>, NoMemory>
         ensures given { IfOk result (λ given. given.items ≡ take n self.old) }
         ensures remaining { IfOk result (λ given. self.new ≡ drop n self.old) }
+        ensures none { take n self.old ≡ [] → IsOk result }
         ensures err { OnErr result (self.new ≡ self.old) }
     {
         let end = self.at + (n as usize).min(self.places.len() - self.at);
-        let given = Vec::from_slice(alloc, &self.places[self.at..end])?;
+        let mut given = Vec::with_capacity(alloc, end - self.at)?;
+        given.extend_from_slice(&self.places[self.at..end])?;
         self.at = end;
         Ok(given)
     }

@@ -1,6 +1,6 @@
 //! An open cursor, its batches, and the places that remain.
 
-ghost use Rattle.std.specs.Prelude.{◌≡◌, ◌<◌, ℕ, IfNone, IfOk, IfSome, List, None, OnErr, OnOk, Some, [], drop, if◌then◌else◌, length, map, option_map, slice_get, slice_set, take};
+ghost use Rattle.std.specs.Prelude.{◌≡◌, ◌<◌, ℕ, IfNone, IfOk, IfSome, IsOk, List, None, OnErr, OnOk, Some, [], drop, if◌then◌else◌, length, map, option_map, slice_get, slice_set, take};
 ghost use Rattle.bd_cursor_model.specs.Answer.{at_most, limited, is_empty};
 ghost use Rattle.bd_cursor_model.specs.Session.{OpenCursor, batch_of, cursor_of, digest_after, given_by, remaining_after, moved, token_after, with_moved, without};
 ghost use Rattle.bd_cursor_model.specs.Source.{HandsOut};
@@ -33,7 +33,7 @@ pub(crate) struct Cursor {
 }
 
 impl Cursor {
-    /// Returns the next n documents, or all that remain if there are fewer.
+    /// Returns the next n documents, or all that remain if there are fewer. An empty batch takes no memory.
     pub(crate) fn next(
         &mut self,
         alloc: Global,
@@ -44,6 +44,8 @@ impl Cursor {
             given_batch batch ≡ batch_of (open_cursor documents.old.dump self.old) n) }
         ensures moved { OnOk result (open_cursor documents.old.dump self.new
             ≡ moved (open_cursor documents.old.dump self.old) n) }
+        ensures none { (batch_of (open_cursor documents.old.dump self.old) n).places ≡ [] →
+            IsOk result }
         ensures dump { documents.new.dump ≡ documents.old.dump }
         ensures err { OnErr result (self.new ≡ self.old) }
     {
@@ -196,6 +198,8 @@ impl Remainder {
             r.1 ≡ is_empty (drop n (places_remaining a self.old))) }
         ensures remaining { let a = selection_of (documents dump.now) request.now in
             IfOk result (λ r. places_remaining a self.new ≡ drop n (places_remaining a self.old)) }
+        ensures none { let a = selection_of (documents dump.now) request.now in
+            take n (places_remaining a self.old) ≡ [] → IsOk result }
         ensures err { OnErr result (self.new ≡ self.old) }
     {
         match self {
@@ -284,6 +288,8 @@ impl ScanPosition {
             v.items ≡ take n (scan_remaining_in dump.now filter.now self.old)) }
         ensures remaining { OnOk result (scan_remaining_in dump.now filter.now self.new
             ≡ drop n (scan_remaining_in dump.now filter.now self.old)) }
+        ensures none { take n (scan_remaining_in dump.now filter.now self.old) ≡ [] →
+            IsOk result }
     {
         let mut places = Vec::new(alloc);
         while (places.len() as u64) < n {

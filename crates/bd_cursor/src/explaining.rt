@@ -1,12 +1,12 @@
 //! How the documents of a request are found, and what is read for them.
 
-ghost use Rattle.std.specs.Prelude.{◌≡◌, ◌<◌, All, IfOk, count_by, length};
+ghost use Rattle.std.specs.Prelude.{◌≡◌, ◌<◌, All, IfOk, IsOk, count_by, length};
 ghost use Rattle.std.specs.List.{range_with_len};
 ghost use Rattle.bd_cursor_model.specs.Answer.{matching};
 ghost use Rattle.bd_bson_dump.specs.Collection.{documents};
 ghost use Rattle.bd_query_filter.specs.Filter.{filter_tree};
 ghost use Rattle.bd_cursor_sort.specs.Selection.{selection_of, matches_at_of};
-ghost use Rattle.bd_cursor.specs.Access.{IsAccessOf, access_path};
+ghost use Rattle.bd_cursor.specs.Access.{IsAccessOf, access_path, scanned};
 ghost use Rattle.bd_cursor.specs.Explanation.{explained_access, explain_doc};
 
 use crate::access::Access;
@@ -50,8 +50,11 @@ pub(crate) fn explain_access(
     access: &Access<'_>,
 ) -> Result<Explain, NoMemory>
     requires { IsAccessOf dump.now request.now access.now }
-    ensures { IfOk result (λ e. explain_doc e ≡ explained_access (documents dump.now) (length
-        (matching (selection_of (documents dump.now) request.now))) (access_path access.now)) }
+    ensures explained { IfOk result (λ e. explain_doc e ≡ explained_access (documents dump.now)
+        (length (matching (selection_of (documents dump.now) request.now)))
+        (access_path access.now)) }
+    // A scan takes no memory.
+    ensures scan { access_path access.now ≡ scanned → IsOk result }
 {
     match access {
         Access::Scan => Ok(Explain {

@@ -1,6 +1,6 @@
 //! Cursors over a dump.
 
-ghost use Rattle.std.specs.Prelude.{◌≡◌};
+ghost use Rattle.std.specs.Prelude.{◌≡◌, Some};
 ghost use Rattle.std.specs.Option.{ForSome};
 ghost use Rattle.sha2.specs.Sha256.{sha256};
 ghost use Rattle.bd_cursor_model.specs.Laws.{IsFair};
@@ -34,14 +34,14 @@ pub struct Session {
 }
 
 impl Session {
-    ghost use Rattle.std.specs.Prelude.{◌≤◌, ◌<◌, IfErr, IfOk, IfSome, IsFalse, IsTrue, List, None, OnOk, Option, Some, ℕ, false, length, option_map, true};
+    ghost use Rattle.std.specs.Prelude.{◌≤◌, ◌<◌, IfErr, IfOk, IfSome, IsFalse, IsOk, IsTrue, List, None, OnOk, Option, Some, ℕ, false, length, option_map, true};
     ghost use Rattle.bd_path.specs.PathNames.{path_text};
     ghost use Rattle.bd_cursor_model.specs.Laws.{new_state};
     ghost use Rattle.bd_cursor_model.specs.Session.{Call, drop_call, dropped, explained, find_call, gave, is_full, kill_call, killed, made, next_call};
     ghost use Rattle.bd_cursor_model.specs.Session.{open_reply, opened, reply, resume_call};
     ghost use Rattle.bd_bson_dump.specs.Collection.{documents};
     ghost use Rattle.bd_index.specs.IndexView.{IsIndexOf};
-    ghost use Rattle.bd_cursor.specs.Access.{index_key};
+    ghost use Rattle.bd_cursor.specs.Access.{by_none, index_key, way_of};
     ghost use Rattle.bd_cursor.specs.SessionView.{IsRefusedCall, Steps, dump_of, given_batch, positioned_token, path_index_key};
     ghost use Rattle.bd_cursor.specs.inside.SessionView.{IsGranted, IsOpening};
     ghost use Rattle.bd_cursor.specs.SessionView.{explain_request, hint_of, make_index, make_of, state_of};
@@ -120,6 +120,8 @@ impl Session {
     pub fn explain(&self, request: &Request, choice: &Choice) -> Result<Explain, Refused>
         ensures steps { Steps (λ e. explained (explain_doc e))
             (explain_request (dump_of self.now) request.now choice.now) self.now result self.now }
+        // A scan takes no memory.
+        ensures scan { way_of choice.now ≡ by_none → IsOk result }
     {
         let dump = &self.documents.dump;
         let access = Access::of(self.alloc, dump, &self.indexes, request, choice)?;
@@ -337,6 +339,8 @@ impl DigestedDump {
     /// The digest of its bytes. It takes no memory.
     pub(crate) fn digest(&mut self) -> [u8; 32]
         ensures digest { result ≡ sha256 (bytes_of self.old.dump) }
+        // It is stored, and not computed again.
+        ensures stored { self.new.digest ≡ Some result }
         ensures dump { self.new.dump ≡ self.old.dump }
     {
         if let Some(digest) = self.digest {

@@ -16,15 +16,15 @@ count_among-requires c =
     let w = lent_within c.as_ref.result c.as_ref.ensures.value c.in_ok-found-in-Bounded.ensures in
     subst (λ ps. All (λ p. p < length (documents c.args.dump.now)) ps) (sym c.deref.ensures.value) (index_source lead w).below
 
-pub returns-in-Scan : goal.returns-in-Scan
-returns-in-Scan c =
+pub returns-in-Scan-clause-explained : goal.returns-in-Scan-clause-explained
+returns-in-Scan-clause-explained c =
     let ds = documents c.args.dump.now in
     let r = c.args.request.now in
     (λ j. explanation plans.Scan None 0 ((c.from.ensures ∙ c.len.ensures) j) (matches_of_all ds r c.count_matches.result c.count_matches.ensures j))
     ∙ ap (λ a. explained_access ds (length (matching (selection_of ds r))) (access_path a)) (sym c.in-Scan.is)
 
-pub returns-in_ok-from_str-in-Bounded : goal.returns-in_ok-from_str-in-Bounded
-returns-in_ok-from_str-in-Bounded c =
+pub returns-in_ok-from_str-in-Bounded-clause-explained : goal.returns-in_ok-from_str-in-Bounded-clause-explained
+returns-in_ok-from_str-in-Bounded-clause-explained c =
     let ds = documents c.args.dump.now in
     let r = c.args.request.now in
     let i = c.in-Bounded.index.now in
@@ -39,8 +39,8 @@ returns-in_ok-from_str-in-Bounded c =
     ((c.count_among.ensures ∙ ap (count_by matches_at) c.deref.ensures.value ∙ as_many ds matches_at ps (index_source lead w) w.ascend) j))
     ∙ ap (λ a. explained_access ds (length (matching (selection_of ds r))) (access_path a)) (sym c.in-Bounded.is)
 
-pub returns-in_ok-from_str-in-Walk : goal.returns-in_ok-from_str-in-Walk
-returns-in_ok-from_str-in-Walk c =
+pub returns-in_ok-from_str-in-Walk-clause-explained : goal.returns-in_ok-from_str-in-Walk-clause-explained
+returns-in_ok-from_str-in-Walk-clause-explained c =
     let ds = documents c.args.dump.now in
     let r = c.args.request.now in
     let i = c.in-Walk.index.now in

@@ -1,5 +1,5 @@
 use Rattle.std.proofs.Common.{◌≡◌, ◌≤◌, ◌<◌, ap, sym, ◌∙◌, Some, List, cond, length, map, get_or, slice_get, slice_set, arith, subst}
-use Rattle.std.proofs.{lemmas.Grind.common_steps, lemmas.List.map-set}
+use Rattle.std.proofs.{lemmas.Bool.false≢true, lemmas.Grind.common_steps, lemmas.List.map-set}
 use Rattle.bd_value.specs.Limits.{greatest_count}
 use Rattle.bd_cursor_model.specs.Session.{OpenCursor, State, changed_by, cursor_of, gave, next_call, reply, with_moved, without}
 use Rattle.bd_cursor.specs.{SessionView.TakesMemory, SessionView.given_batch, SessionView.open_cursor, SessionView.state_of, declared.cursor.Cursor.Cursor}
@@ -18,7 +18,7 @@ returns-in_default-next c =
     let it : cursor_of c.args.id os ≡ slice_get os c.in-Some.place = rw list at (c.in-Some.ensures.it dump) in
     let few : c.args.n ≤ greatest_count = omega arith in
     let granted = gave_batch c.args.id c.args.n os (open_cursor dump k) (it ∙ get_some dump cs c.in-Some.place k below value) few in
-    record { steps = record { because = subst TakesMemory (sym granted) tt; stays = grind (arith, common_steps); dump = c.next.ensures.dump } }
+    record { steps = record { because = subst TakesMemory (sym granted) (λ none. false≢true (c.in_default-next.ensures.none none)); stays = grind (arith, common_steps); dump = c.next.ensures.dump } }
 
 pub returns : goal.returns
 returns c =
