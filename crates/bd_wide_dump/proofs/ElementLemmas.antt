@@ -139,8 +139,11 @@ pub record Next (bytes : List ℕ) (at : ℕ) (fields : Fields) : Type 0 where
   pub content : List ℕ
   pub rest : List ℕ
   pub after : List ℕ
+  pub value : List ℕ
   pub is : fields ≡ field name tree others
   pub named : IsName name
+  pub spelled : IsValueBy (valued raw) tree value
+  pub written : written_typed tree name value ≡ byte_of type ∷ (name ++ 0 ∷ content)
   pub spells : IsTyped type content tree
   pub more : AreFieldsBy (valued raw) others rest
   pub splits : drop at bytes ≡ byte_of type ∷ (name ++ 0 ∷ (content ++ (rest ++ 0 ∷ after)))
@@ -148,6 +151,9 @@ pub record Next (bytes : List ℕ) (at : ℕ) (fields : Fields) : Type 0 where
 -- an element and what follows it
 pub regroup : (b : ℕ) (n v r x : List ℕ) → ((b ∷ (n ++ 0 ∷ v)) ++ r) ++ x ≡ b ∷ (n ++ 0 ∷ (v ++ (r ++ x)))
 regroup b n v r x = simp append_assoc
+
+grouped : (b : ℕ) (n v x : List ℕ) → (b ∷ (n ++ 0 ∷ v)) ++ x ≡ b ∷ (n ++ 0 ∷ (v ++ x))
+grouped b n v x = simp append_assoc
 
 module _ (bytes : List ℕ) (at : ℕ) where
   element_splits : (t : Tree) (n value rest after body : List ℕ) (p : Written t n value) → drop at bytes ≡ body ++ 0 ∷ after → body ≡ written_typed t n value ++ rest
@@ -167,8 +173,11 @@ module _ (bytes : List ℕ) (at : ℕ) where
         content = p.content;
         rest = h.1;
         after = after;
+        value = h.0;
         is = refl;
         named = h.2;
+        spelled = h.3;
+        written = p.whole;
         spells = p.spells;
         more = h.4;
         splits = element_splits t n h.0 h.1 after body p splits h.5;
@@ -209,6 +218,10 @@ module _ {bytes : List ℕ} {at : ℕ} {fields : Fields} (s : Next bytes at fiel
 
     pub name_ends : zero_at tail ≡ length s.name
     name_ends = ap zero_at (t ∙ tail_splits) ∙ zero_offset s.name (s.content ++ (s.rest ++ 0 ∷ s.after)) s.named.1
+
+  -- the element, and what follows it
+  whole_parts : byte_of s.type ∷ (s.name ++ 0 ∷ (s.content ++ (s.rest ++ 0 ∷ s.after))) ≡ written_typed s.tree s.name s.value ++ (s.rest ++ 0 ∷ s.after)
+  whole_parts = sym (ap (λ (x : List ℕ). x ++ (s.rest ++ 0 ∷ s.after)) s.written ∙ grouped (byte_of s.type) s.name s.content (s.rest ++ 0 ∷ s.after))
 
   value_splits : (k : ℕ) → k ≡ length s.name → drop (at + k + 2) bytes ≡ s.content ++ (s.rest ++ 0 ∷ s.after)
   value_splits k p =
@@ -252,13 +265,14 @@ module _ {bytes : List ℕ} {at : ℕ} {fields : Fields} (s : Next bytes at fiel
           → IsElement bytes at fields type name start next
       output name start next named is to =
           let behind : List ℕ = s.rest ++ 0 ∷ s.after in
+          let same_name = named ∙ name_is tail t in
           let there : drop start bytes ≡ s.content ++ behind = ap (λ (n : ℕ). drop n bytes) is ∙ value_splits k long in
           let more : drop next bytes ≡ behind = ap (λ (n : ℕ). drop n bytes) to ∙ sym (drop-drop (wide_size type here) start bytes)
           ∙ ap (drop (wide_size type here)) there ∙ drop_at s.content behind (wide_size type here) (sym size_is) in
           record {
             tree = s.tree;
             others = s.others;
-            is = s.is ∙ ap (λ (n : List ℕ). field n s.tree s.others) (sym (named ∙ name_is tail t));
+            is = s.is ∙ ap (λ (n : List ℕ). field n s.tree s.others) (sym same_name);
             here = record {
               content = s.content;
               after = behind;
@@ -271,4 +285,10 @@ module _ {bytes : List ℕ} {at : ℕ} {fields : Fields} (s : Next bytes at fiel
             inside = omega (arith, is, fits k long);
             before = omega (arith, is);
             behind = omega (arith, to);
+            value = s.value;
+            named = subst IsName (sym same_name) s.named;
+            spelled = s.spelled;
+            whole = s.splits ∙ whole_parts ∙ ap₂ (λ (n x : List ℕ). written_typed s.tree n s.value ++ x) (sym same_name) (sym more);
+            headed = s.splits ∙ ap₂ (λ (n x : List ℕ). byte_of s.type ∷ (n ++ 0 ∷ x)) (sym same_name) (sym there)
+                ∙ ap (λ (x : ElementType). byte_of x ∷ (name ++ 0 ∷ drop start bytes)) same_type;
           }

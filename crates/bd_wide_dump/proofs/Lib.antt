@@ -5,3 +5,5 @@ pub mod RelaxedLemmas
 pub mod RawLemmas
 pub mod PlainLemmas
 pub mod OneLemmas
+pub mod FieldsLemmas
+pub mod RequestedLemmas

@@ -1,3 +1,6 @@
+pub mod Fields
+pub mod Projected
+pub mod ProjectedRows
 pub mod Raw
 pub mod RelaxedDate
 pub mod Values

@@ -1,9 +1,11 @@
 //! Laws of lines. The body of each is empty: its contract is the law.
 
-ghost use Rattle.std.specs.Prelude.{◌≡◌, ℕ, ℤ, List, [], ◌∷◌, ◌++◌, length};
+ghost use Rattle.std.specs.Prelude.{◌≡◌, ℕ, ℤ, List, [], ◌∷◌, ◌++◌, length, map};
 ghost use Rattle.bd_value.specs.Tree.{Doc, doc, fields_of};
 ghost use Rattle.bd_bson_view.specs.Spelling.{IsDocument, IsDocumentBy, NumberKind, number_size, number_type, valued};
 ghost use Rattle.bd_extjson_text.specs.Text.{text};
+ghost use Rattle.bd_wide_dump.specs.Projected.{projected};
+ghost use Rattle.bd_wide_dump.specs.ProjectedRows.{rows};
 ghost use Rattle.bd_wide_dump.specs.Raw.{raw};
 ghost use Rattle.bd_wide_dump.specs.RelaxedDate.{IsDateText};
 ghost use Rattle.bd_wide_dump.specs.WideText.{AreBytes, IsLineOf};
@@ -26,6 +28,12 @@ pub fn plain_lines()
 pub fn one_wide_document()
     ensures { (d e : Doc) (bytes : List ℕ) → IsDocumentBy (valued raw) d bytes →
         IsDocumentBy (valued raw) e bytes → d ≡ e }
+{}
+
+/// Worked projections have their results.
+pub fn projections_as_worked()
+    ensures { map (λ row. projected row.0 (fields_of row.1)) rows
+        ≡ map (λ row. fields_of row.2) rows }
 {}
 
 /// A date has one text in relaxed form.

@@ -15,6 +15,8 @@
 //!
 //! - `line`: `append_wide`, the text of a document after what a buffer has, and `WideTextBuffer`, the buffer of a line for one
 //!   document after the other.
+//! - `fields`: `append_projected` and `FieldsBuffer`, the same for the requested fields of a document alone: `specs/Projected.antt`.
+//! - `requested`: `read_fields`, the fields that a text requests: `specs/Fields.antt`.
 //! - `element`: the next element of a document, read without a check.
 //! - `format`: `JsonFormat`, canonical or relaxed.
 //! - `number`: doubles and decimal128.
@@ -24,12 +26,18 @@
 #![tactic(auto)]
 
 mod element;
+mod fields;
 mod format;
 mod laws;
 mod line;
 mod number;
 mod relaxed;
+mod requested;
 
+pub use fields::{FieldsBuffer, append_projected};
 pub use format::JsonFormat;
-pub use laws::{numbers_differ, one_date_text, one_wide_document, plain_lines};
+pub use laws::{
+    numbers_differ, one_date_text, one_wide_document, plain_lines, projections_as_worked,
+};
 pub use line::{WideTextBuffer, append_wide};
+pub use requested::read_fields;

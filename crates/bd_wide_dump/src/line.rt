@@ -68,7 +68,7 @@ pub fn append_wide(format: JsonFormat, bytes: &[u8], buffer: &mut Vec<u8>, end: 
 /// the functions below.
 #[cycle(wide)]
 #[inline(never)]
-fn append_fields(
+pub(crate) fn append_fields(
     format: JsonFormat,
     bytes: &[u8],
     start: usize,

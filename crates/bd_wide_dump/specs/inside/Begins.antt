@@ -6,10 +6,10 @@ use Rattle.bd_value.specs.declared.node.Kind.TheVariants as kinds
 use Rattle.bd_value.specs.Tree.{Scalar, int64, Tree, leaf, doc, array, code_scope, Fields, field}
 use Rattle.bd_bson_view.specs.declared.raw_parts.ElementType.{ElementType}
 use Rattle.bd_bson_view.specs.declared.raw_parts.ElementType.TheVariants.{Kept, Double, Decimal128}
-use Rattle.bd_bson_view.specs.Spelling.{NumberKind, number_type, number_size, framed, scoped, IsText, IsScalar, AreFieldsBy, valued}
+use Rattle.bd_bson_view.specs.Spelling.{NumberKind, number_type, number_size, framed, scoped, written_typed, IsName, IsText, IsScalar, IsValueBy, AreFieldsBy, valued}
 use Rattle.bd_bson_view.specs.Sizes.{size_of, HasBytesOf}
 use Rattle.bd_wide_dump.specs.declared.format.JsonFormat.{JsonFormat}
-use Rattle.bd_wide_dump.specs.{Raw.raw, Values.values_in, WideText.IsKindText, WideText.IsScalarText, WideText.IsTextOf}
+use Rattle.bd_wide_dump.specs.{Raw.byte_of, Raw.raw, Values.values_in, WideText.IsKindText, WideText.IsScalarText, WideText.IsTextOf}
 
 -- The bytes begin with elements of a document, or of an array, and the zero after them; other bytes may follow.
 pub record HasElements (bytes : List ℕ) : Type 0 where
@@ -88,7 +88,7 @@ pub record HasValue (type : ElementType) (bytes : List ℕ) (tree : Tree) : Type
   pub splits : bytes ≡ content ++ after
   pub short : length content ≤ longest_document
 
--- The element at an offset: its type, its name, the offset of its value and that of the next element.
+-- The element at an offset, where elements begin: its type, its name, the offset of its value and that of the next element.
 pub record IsElement (bytes : List ℕ) (at : ℕ) (fields : Fields) (type : ElementType) (name : List ℕ) (start next : ℕ) : Type 0 where
   pub tree : Tree
   pub others : Fields
@@ -99,6 +99,12 @@ pub record IsElement (bytes : List ℕ) (at : ℕ) (fields : Fields) (type : Ele
   pub inside : start ≤ length bytes
   pub before : at < start
   pub behind : start ≤ next
+  -- the bytes that spell the value, with its type byte if it is a number
+  pub value : List ℕ
+  pub named : IsName name
+  pub spelled : IsValueBy (valued raw) tree value
+  pub whole : drop at bytes ≡ written_typed tree name value ++ drop next bytes
+  pub headed : drop at bytes ≡ byte_of type ∷ (name ++ 0 ∷ drop start bytes)
 
 -- how many bytes a value of this type takes at the start of bytes
 abbrev pub wide_size : ElementType → List ℕ → ℕ
