@@ -12,7 +12,7 @@ use Rattle.bd_path.specs.Reach.{Names}
 use Rattle.bd_wide_dump.specs.declared.format.JsonFormat.{JsonFormat}
 use Rattle.bd_wide_dump.specs.{WideText.IsTextOf}
 use Rattle.bd_wide_dump.specs.declared.fields.Field.{Field}
-use Rattle.bd_wide_dump.specs.Fields.{paths_of}
+use Rattle.bd_wide_dump.specs.inside.Projects.{paths_of}
 use Rattle.bd_wide_dump.specs.Raw.{raw, byte_of}
 use Rattle.bd_wide_dump.specs.Values.{values_in}
 use Rattle.bd_wide_dump.specs.Projected.{rest_below, before, below, ends, kept, add_field, add_item, projected, projected_value, projected_items, IsProjectedText}

@@ -2,17 +2,12 @@
 use Rattle.std.specs.Prelude.{ℕ, List, [], ◌∷◌, ◌++◌, ◌==◌, Bool, true, false, ◌&&◌, ◌||◌, if◌then◌else◌, Option, Some, None, Result, Ok}
 use Rattle.std.specs.Prelude.{map, codes, option_and_then}
 use Rattle.std.specs.{List.list_any, List.slice_split, Str.bytes_eq}
-use Rattle.bd_path.specs.{Path.component_names, Path.path_of, PathNames.names_of, Reach.Names}
+use Rattle.bd_path.specs.{Path.path_of, PathNames.names_of, Reach.Names}
 use Rattle.bd_path.specs.declared.path.{Path.Path, PathFault.PathFault}
-use Rattle.bd_wide_dump.specs.declared.fields.Field.{Field}
 
 -- the names of each of these paths
 abbrev pub requested : List Path → List Names
 requested paths = map names_of paths
-
--- the same for what is left of paths
-abbrev pub paths_of : List Field → List Names
-paths_of fields = map (λ f. component_names f.names.now) fields
 
 -- ---- the fields that a text requests
 
@@ -45,12 +40,12 @@ clash (path ∷ paths) = list_any (meet path) paths || clash paths
 abbrev pub id_path : Names
 id_path = codes "_id" ∷ []
 
--- these paths and `_id`, unless it is among them or not wanted; None if one leads to another, or if `_id` is among them and not wanted
+-- these paths and `_id`, unless it is among them or left out; None if one leads to another, or if `_id` is among them and left out
 abbrev pub with_id : Bool → List Names → Option (List Names)
 with_id no_id paths = let named = list_any (leads id_path) paths in
     if clash paths || (no_id && named) then None
     else Some (if no_id || named then paths else paths ++ id_path ∷ [])
 
--- the fields that a text requests by paths with commas between them, and `_id`, unless it is not wanted; None if the text is refused
+-- the fields that a text requests by paths with commas between them, and `_id`, unless it is left out; None if the text is refused
 abbrev pub fields_named : Bool → List ℕ → Option (List Names)
 fields_named no_id text = option_and_then (with_id no_id) (paths_in (slice_split (λ c. c == 44) text))

@@ -7,7 +7,8 @@ ghost use Rattle.bd_bson_check.specs.FirstFault.{fault_under};
 ghost use Rattle.bd_bson_check.specs.declared.profile.Profile.TheVariants.{All};
 ghost use Rattle.bd_path.specs.Path.{component_names};
 ghost use Rattle.bd_wide_dump.specs.Projected.{IsProjectedText, below, ends, projected_value, rest_below};
-ghost use Rattle.bd_wide_dump.specs.Fields.{paths_of, requested};
+ghost use Rattle.bd_wide_dump.specs.Fields.{requested};
+ghost use Rattle.bd_wide_dump.specs.inside.Projects.{paths_of};
 ghost use Rattle.bd_wide_dump.specs.inside.Begins.{HasElements, IsElement};
 ghost use Rattle.bd_wide_dump.specs.inside.Projects.{AddsElement, AddsFramed, array_type, remaining};
 

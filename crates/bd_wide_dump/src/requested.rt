@@ -11,8 +11,8 @@ use bd_path::{Component, Path, PathFault};
 use bd_value::NoMemory;
 use std::alloc::{AllocError, Global};
 
-/// The paths to the fields that a text requests, with commas between them, and `_id`, unless it is not wanted. None if one of them
-/// is no path, if one leads to another, or if one leads to `_id` and it is not wanted. It fails only if memory runs out.
+/// The paths to the fields that a text requests, with commas between them, and `_id`, unless it is left out. None if one of them
+/// is no path, if one leads to another, or if one leads to `_id` and it is left out. It fails only if memory runs out.
 pub fn read_fields(alloc: Global, text: &str, no_id: bool) -> Result<Option<Vec<Path>>, NoMemory>
     ensures { IfOk result (λ paths.
         option_map (λ v. requested v.items) paths ≡ fields_named no_id text.now) }
@@ -62,7 +62,7 @@ fn read_path(alloc: Global, text: &str) -> Result<Option<Path>, NoMemory>
     }
 }
 
-/// These paths and `_id`, unless it is among them or not wanted; None if they are refused.
+/// These paths and `_id`, unless it is among them or left out; None if they are refused.
 fn add_id(alloc: Global, no_id: bool, paths: Vec<Path>) -> Result<Option<Vec<Path>>, NoMemory>
     ensures { IfOk result (λ all.
         option_map (λ v. requested v.items) all ≡ with_id no_id (requested paths.items)) }

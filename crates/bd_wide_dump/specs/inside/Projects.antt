@@ -1,13 +1,18 @@
 -- What is appended for the elements of a document or an array of which only some fields are requested.
-use Rattle.std.specs.Prelude.{◌≡◌, ℕ, List, ◌++◌, Bool, true, false, Option, Some, None}
+use Rattle.std.specs.Prelude.{◌≡◌, ℕ, List, ◌++◌, map, Bool, true, false, Option, Some, None}
 use Rattle.bd_value.specs.declared.node.Kind.TheVariants as kinds
 use Rattle.bd_value.specs.Tree.{Tree, Fields, no_fields, field}
 use Rattle.bd_bson_view.specs.declared.raw_parts.ElementType.{ElementType}
 use Rattle.bd_bson_view.specs.declared.raw_parts.ElementType.TheVariants.{Kept}
 use Rattle.bd_bson_view.specs.Spelling.{framed, AreFieldsBy, valued}
-use Rattle.bd_path.specs.Reach.{Names}
+use Rattle.bd_path.specs.{Path.component_names, Reach.Names}
 use Rattle.bd_wide_dump.specs.Raw.{raw}
+use Rattle.bd_wide_dump.specs.declared.fields.Field.{Field}
 use Rattle.bd_wide_dump.specs.Projected.{below, kept, add_field, projected_value}
+
+-- the names of what is left of each path
+abbrev pub paths_of : List Field → List Names
+paths_of fields = map (λ f. component_names f.names.now) fields
 
 -- whether a type is that of arrays, if it is that of arrays or of documents
 abbrev pub array_type : ElementType → Option Bool

@@ -1,6 +1,6 @@
 use Rattle.std.proofs.Common.{◌≡◌, ◌==◌, ◌∙◌, ℕ, List, [], length, vec_len, true, false, true≢false, ap, sym, subst, OnOk, arith, rules}
 use Rattle.bd_wide_dump.specs.declared.fields.Field.{Field}
-use Rattle.bd_wide_dump.specs.{Fields.paths_of, Projected.ends, Projected.projected_value}
+use Rattle.bd_wide_dump.specs.{inside.Projects.paths_of, Projected.ends, Projected.projected_value}
 use Rattle.bd_wide_dump.specs.inside.Projects.{AddsElement}
 use Rattle.bd_wide_dump.proofs.ElementLemmas.{byte_there}
 use Rattle.bd_wide_dump.proofs.FieldsLemmas as f

@@ -1,5 +1,5 @@
 use Rattle.std.proofs.Common.{◌+◌, ◌-◌, ◌*◌, ◌≤◌, length}
-use Rattle.bd_wide_dump.specs.Fields.{paths_of}
+use Rattle.bd_wide_dump.specs.inside.Projects.{paths_of}
 use Rattle.bd_wide_dump.proofs.FieldsLemmas.{Goes}
 use Rattle.bd_wide_dump.proofs.fields.+projecting.Given as goal
 

@@ -1,5 +1,6 @@
 use Rattle.std.proofs.Common.{◌≡◌, ◌++◌, length}
-use Rattle.bd_wide_dump.specs.Fields.{paths_of, requested}
+use Rattle.bd_wide_dump.specs.Fields.{requested}
+use Rattle.bd_wide_dump.specs.inside.Projects.{paths_of}
 use Rattle.bd_wide_dump.proofs.fields.all_fields.Given as goal
 
 abbrev pub invariant-loop-rest : goal.invariant-loop-rest

@@ -1,6 +1,7 @@
 use Rattle.std.proofs.Common.{ap, subst, sym, false, ◌∙◌, List, ℕ}
 use Rattle.bd_value.specs.Tree.{doc}
-use Rattle.bd_wide_dump.specs.Fields.{paths_of, requested}
+use Rattle.bd_wide_dump.specs.Fields.{requested}
+use Rattle.bd_wide_dump.specs.inside.Projects.{paths_of}
 use Rattle.bd_wide_dump.specs.inside.Projects.{AddsFramed}
 use Rattle.bd_wide_dump.proofs.LineLemmas.{document_of, whole_elements, text_within}
 use Rattle.bd_wide_dump.proofs.FieldsLemmas as f

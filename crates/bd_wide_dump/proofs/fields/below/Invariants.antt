@@ -1,5 +1,5 @@
 use Rattle.std.proofs.Common.{◌≡◌, ◌++◌, length}
-use Rattle.bd_wide_dump.specs.{Fields.paths_of, Projected.below}
+use Rattle.bd_wide_dump.specs.{inside.Projects.paths_of, Projected.below}
 use Rattle.bd_wide_dump.proofs.fields.below.Given as goal
 
 abbrev pub invariant-loop-rest : goal.invariant-loop-rest
