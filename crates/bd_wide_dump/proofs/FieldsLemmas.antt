@@ -266,9 +266,9 @@ projected_text format (Err e) paths bytes old new end d is fs same w = tt
 
 -- ---- paths
 
-pub none_left : (fields : List Field) → paths_of fields ≡ [] → fields ≡ []
-none_left [] none = refl
-none_left (x ∷ xs) none = absurd cc
+pub none_remains : (fields : List Field) → paths_of fields ≡ [] → fields ≡ []
+none_remains [] none = refl
+none_remains (x ∷ xs) none = absurd cc
 
 -- these paths, and one more if it is one
 abbrev pub appended : List Names → Option Names → List Names

@@ -214,6 +214,7 @@ unfolding whole_elements
 text_is format (Ok to) bytes old new end d is w = (w.text, (d, is, w.is), w.written)
 text_is format (Err e) bytes old new end d is w = tt
 
+-- what ends the text is within the output
 pub text_within : {E : Type 0} (format : JsonFormat) (r : Result ℕ E) (tree : Tree) (old new : List ℕ) (end : ℕ) → IfOk r (λ to. AppendsText format tree old end to new) → IfOk r (λ to. to ≤ length new)
 text_within format (Ok to) tree old new end w = w.inside
 text_within format (Err e) tree old new end w = tt

@@ -209,6 +209,7 @@ module _ (bytes : List ℕ) (start : ℕ) (tree : Tree) where
   body_splits content body after splits frame =
       sym (drop-drop 4 start bytes) ∙ ap (drop 4) (splits ∙ ap (λ (x : List ℕ). x ++ after) frame ∙ framed_after body after) ∙ number_after (length body + 5) (body ++ 0 ∷ after)
 
+  -- the value of the type of documents is one, and its elements begin after its length
   pub document_here : HasValue (Kept kinds.Doc) (drop start bytes) tree → (e : HasElements (drop (start + 4) bytes)) × (tree ≡ doc e.fields)
   document_here v = go v.spells
     where
@@ -219,6 +220,7 @@ module _ (bytes : List ℕ) (start : ℕ) (tree : Tree) where
       go (an_array d) = absurd (cc (d.typed))
       go (a_code d) = absurd (cc (d.typed))
 
+  -- the same of arrays
   pub array_here : HasValue (Kept kinds.Array) (drop start bytes) tree → (e : HasElements (drop (start + 4) bytes)) × (tree ≡ array (values_in e.fields))
   array_here v = go v.spells
     where

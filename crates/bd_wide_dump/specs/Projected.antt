@@ -53,7 +53,7 @@ abbrev mutual
   projected paths (field n t fs) =
       add_field n (kept (below n paths) t (projected_value (below n paths) t)) (projected paths fs)
 
-  -- what remains of a value in which these paths go on: of a document its fields on them, of an array the same of each document
+  -- what remains of a value in which these paths continue: of a document its fields on them, of an array the same of each document
   -- and each array in it; nothing of any other value
   pub projected_value : List Names → Tree → Option Tree
   projected_value paths (leaf s) = None
