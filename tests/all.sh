@@ -7,7 +7,8 @@ cd "$(dirname "$0")/.." || exit 1
 # The programs that the gate builds are tested, and no others.
 unset BSONFIND BSONWIDE
 log=$(mktemp) || exit 1
-trap 'rm -f "$log"' EXIT
+times=$(mktemp) || exit 1
+trap 'rm -f "$log" "$times"' EXIT
 passed=0
 failed=0
 
@@ -21,7 +22,7 @@ add() {
 
 # What an earlier run left is not tested in place of what the gate builds.
 rm -f crates/bsonfind/out/bsonfind crates/bsonwide/out/bsonwide crates/bd_growth_tests/out/bd_growth_tests_tests
-rt ci | tee "$log"
+tools/meter.py --table "$times" rt ci | tee "$log"
 add
 
 # The gate leaves the programs and the tests of the calls that grow, proved and built, so nothing is proved again.
@@ -73,5 +74,7 @@ if [ "$failed" -eq 0 ]; then
 	done
 fi
 
+# The processor time of the gate, by crate.
+cat "$times"
 echo "$passed passed, $failed failed"
 [ "$failed" -eq 0 ]

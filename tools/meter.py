@@ -1,10 +1,10 @@
 #!/usr/bin/env python3
 """Measures the processor time of a run of `rt`, by crate and by part: its proof, its tests, its edits.
 
-usage: tools/meter.py COMMAND [ARGUMENT..]     such as tools/meter.py rt ci
+usage: tools/meter.py [--table FILE] COMMAND [ARGUMENT..]     such as tools/meter.py rt ci
 
-It looks at the processes of the command every half second, as /proc shows them, so what starts and ends between two looks is not
-counted with its crate, but in the sum. The status is that of the command.
+The table goes to standard output, or into FILE. It looks at the processes of the command every half second, as /proc shows them, so
+what starts and ends between two looks is not counted with its crate, but in the sum. The status is that of the command.
 """
 
 import os
@@ -15,6 +15,7 @@ import threading
 import time
 from collections import defaultdict
 from pathlib import Path
+from typing import TextIO
 
 PARTS = ("proof", "tests", "edits")
 TICKS = os.sysconf("SC_CLK_TCK")
@@ -78,24 +79,27 @@ def kind_of(process: str) -> tuple[str, str] | None:
     return crate, "edits" if is_edit else "tests" if "--test" in words or crate.endswith("_tests") else "proof"
 
 
-def main(command: list[str]) -> int:
-    """Run the command, and print what each crate took."""
+def main(command: list[str], out: TextIO) -> int:
+    """Run the command, and write what each crate took."""
     started = time.monotonic()
     with subprocess.Popen(command) as run:
         meter = Meter(run.pid)
         run.wait()
     meter.is_over.set()
     taken = meter.seconds()
-    print(f"\n{'seconds of processor time':30}" + "".join(f"{part:>8}" for part in PARTS))
+    print(f"\n{'seconds of processor time':30}" + "".join(f"{part:>8}" for part in PARTS), file=out)
     for crate in sorted(taken, key=lambda it: -sum(taken[it].values())):
-        print(f"{crate:30}" + "".join(f"{taken[crate][part]:8.0f}" for part in PARTS))
+        print(f"{crate:30}" + "".join(f"{taken[crate][part]:8.0f}" for part in PARTS), file=out)
     sums = {part: sum(it[part] for it in taken.values()) for part in PARTS}
-    print(f"{'minutes':30}" + "".join(f"{sums[part] / 60:8.1f}" for part in PARTS))
+    print(f"{'minutes':30}" + "".join(f"{sums[part] / 60:8.1f}" for part in PARTS), file=out)
     used = resource.getrusage(resource.RUSAGE_CHILDREN)
     whole = (used.ru_utime + used.ru_stime) / 60
-    print(f"{whole:.1f} minutes of processor time in all, {(time.monotonic() - started) / 60:.1f} minutes by the clock")
+    print(f"{whole:.1f} minutes of processor time in all, {(time.monotonic() - started) / 60:.1f} minutes by the clock", file=out)
     return run.returncode
 
 
 if __name__ == "__main__":
-    sys.exit(main(sys.argv[1:]) if sys.argv[1:] else __doc__)
+    if sys.argv[1:2] == ["--table"] and sys.argv[3:]:
+        with open(sys.argv[2], "w", encoding="utf-8") as table:
+            sys.exit(main(sys.argv[3:], table))
+    sys.exit(main(sys.argv[1:], sys.stdout) if sys.argv[1:] else __doc__)
