@@ -266,9 +266,9 @@ projected_text format (Err e) paths bytes old new end d is fs same w = tt
 
 -- ---- paths
 
-pub none_remains : (fields : List Field) → paths_of fields ≡ [] → fields ≡ []
-none_remains [] none = refl
-none_remains (x ∷ xs) none = absurd cc
+pub are_no_fields : (fields : List Field) → paths_of fields ≡ [] → fields ≡ []
+are_no_fields [] none = refl
+are_no_fields (x ∷ xs) none = absurd cc
 
 -- these paths, and one more if it is one
 abbrev pub appended : List Names → Option Names → List Names

@@ -85,7 +85,7 @@ append_element-returns t c = λ fs e.
     let old = c.args.out.now.items in
     let new = c.append_inside-2.new.out.items in
     let some : inner ≡ [] → ⊥ = λ none.
-    let zero : vec_len v ≡ 0 = omega (arith, v.ok.0, ap (λ (xs : List Field). length xs) (f.none_remains v.items none)) in
+    let zero : vec_len v ≡ 0 = omega (arith, v.ok.0, ap (λ (xs : List Field). length xs) (f.are_no_fields v.items none)) in
     true≢false (sym (ap (λ (n : ℕ). n == 0) zero) ∙ sym c.is_empty.ensures ∙ c.if-is_empty.false) in
     let part : ends inner ≡ false = ap (λ (xs : List Field). ends (paths_of xs)) (sym c.deref.ensures.value) ∙ sym c.ends.ensures ∙ c.if-ends.false in
     f.part_remains c.args.is_array (paths_of c.args.fields.now) inner name e.tree old new c.if-is_array.false c.in_ok-inner.ensures c.append_inside-2.result some part
