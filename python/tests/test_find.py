@@ -12,6 +12,7 @@ from typing import List, Tuple
 from unittest import mock
 
 from bsonfind import (
+    ArgumentError,
     BsonfindError,
     CommandError,
     DumpError,
@@ -25,7 +26,7 @@ from bsonfind import (
     find_parts,
     plan,
 )
-from bsonfind._ask.requests import LONGEST_ARGUMENT
+from bsonfind._ask.requests import LONGEST_ARGUMENT, LONGEST_FILTER
 
 from .archives import archive
 from .goods import FIRST, GOODS, MIXED, QUESTIONS, array, decimal, document, double, embedded, whole
@@ -164,8 +165,8 @@ class Goods(Dumps):
             self.assertEqual(raised.exception.args, args)
 
     def test_long_queries(self) -> None:
-        """The longest that an argument has, and one that goes to a session."""
-        for size, word in ((LONGEST_ARGUMENT, "bsonwide find - --query"), (LONGEST_ARGUMENT + 1, "bsonwide serve /dev/fd/")):
+        """The longest that an argument has, and one that goes to a file."""
+        for size, word in ((LONGEST_ARGUMENT, "bsonwide find - --query "), (LONGEST_ARGUMENT + 1, "bsonwide find - --queryFile=/dev/fd/")):
             filter = {"_id": {"$lt": 1}, "$or": [{"x": "a" * (size - 44)}, {"_id": 0}]}
             self.assertEqual(len(json.dumps(filter, separators=(",", ":"))), size)
             for decode, wanted in (("bytes", FIRST.encode()), ("bson", GOODS[0])):
@@ -189,6 +190,8 @@ class Goods(Dumps):
         with self.assertRaises(CommandError) as raised:
             list(find(self.path, {"x": "é" * LONGEST_ARGUMENT, "y": {"$oid": "x"}}, program=PROGRAM))
         self.assertEqual(raised.exception.args, ("json", 4, "bad wrapper", 6 * LONGEST_ARGUMENT + 12))
+        with self.assertRaisesRegex(ArgumentError, "a filter has at most 16777216 bytes, not 16777217"):
+            list(find(self.path, {"x": "a" * (LONGEST_FILTER - 7)}, program=PROGRAM))
 
 
 class Prices(Dumps):
@@ -438,7 +441,7 @@ class Commands(Dumps):
             self.assertEqual(large("-", "--count", "--limit=1", stdin=file), (0, b"1\n", "1 documents, end\n"))
         bad = self.file(data + DAMAGED, "bad.bson")
         for words, told in (
-            ([path, "--batch=2"], f"cannot read {path}: it has more than {most} bytes, and is asked by parts: leave --batch, --after and long queries out"),
+            ([path, "--batch=2"], f"cannot read {path}: it has more than {most} bytes, and is asked by parts: leave --batch and --after out"),
             ([path], f"cannot read {path}: it has more than {most} bytes, and so do the documents that are found: ask for fewer"),
             ([path, "--query", '{"price":{"$x":1}}'], 'query: place "price.$x": unknown operator'),
             ([bad, "--query", '{"_id":1}'], f'document 18, byte {len(data) + 7}, path "d": bad boolean'),

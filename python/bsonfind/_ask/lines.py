@@ -1,7 +1,4 @@
-"""What answers a request over a dump: lines, documents as they are, or their number.
-
-A run of `bsonwide find` prints it, or where an argument would be too long a session does.
-"""
+"""What answers a request over a dump: lines, documents as they are, or their number. A run of `bsonwide find` prints it."""
 
 from __future__ import annotations
 
@@ -10,15 +7,14 @@ from contextlib import ExitStack, closing
 from io import BufferedReader
 from typing import Any, NamedTuple, Sequence, Union
 
-from .._dumps.originals import Original
 from .._dumps.passing import documents_taken
 from .._dumps.printing import Batches, lines_of
 from .._dumps.sources import Source
-from .._errors import ProgramError
+from .._errors import ArgumentError, ProgramError
 from .._names import File, name_of_file
-from .._run.processes import Dump, Group, Run
+from .._run.processes import Dump, Group, Run, file_in_memory
 from .._run.wide import wide_program
-from .requests import Request
+from .requests import LONGEST_FILTER, Request
 
 _COUNTED = re.compile(r"(\d+) documents, (end|more)(?:, token (\S+))?\n")
 _PIECE = 1 << 16
@@ -46,8 +42,16 @@ def counted(run: Run, printed: int | None = None) -> Counted:
 
 
 def finding(dump: Dump, request: Request, program: str, options: Sequence[str] = (), **how: Any) -> Run:
-    """A run of `find`."""
-    return Run.over(dump, wide_program(program, how.get("group")), "find", [*request.words(), *options], **how)
+    """A run of `find`. A filter that is too long for an argument is in a file without a name."""
+    wide = wide_program(program, how.get("group"))
+    if not request.is_long:
+        return Run.over(dump, wide, "find", [*request.words(), *options], **how)
+    text = request.filter.encode()
+    if len(text) > LONGEST_FILTER:
+        raise ArgumentError(f"a filter has at most {LONGEST_FILTER} bytes, not {len(text)}")
+    with file_in_memory(wide, text) as file:
+        words = request.words(f"/dev/fd/{file.fileno()}")
+        return Run.over(dump, wide, "find", [*words, *options], passed=[file.fileno()], **how)
 
 
 class Lines:
@@ -76,16 +80,13 @@ class Lines:
         """The lines as they come, without their newlines, or documents. Closing this ends the program."""
         with ExitStack() as files:
             dump = self._opened(files)
-            how = self._by_session if self._request.is_long else self._by_run
-            for some in files.enter_context(closing(how(dump, files))):
+            for some in files.enter_context(closing(self._by_run(dump))):
                 check(dump)
                 yield some
             check(dump)
 
     def count(self) -> int:
         """How many lines there are."""
-        if self._request.is_long:
-            return sum(map(len, self.batches()))
         with ExitStack() as files:
             dump = self._opened(files)
             with self._run(dump, "--count") as run:
@@ -107,37 +108,13 @@ class Lines:
         words = [*(f"--{name}={value}" for name, value in options if value is not None), *more]
         return finding(dump, self._request, self._program, words, group=self._group)
 
-    def _by_run(self, dump: Asked, _: ExitStack) -> Batches:
+    def _by_run(self, dump: Asked) -> Batches:
         number = 0
         with self._run(dump, *(["--bson"] if self._is_bson else [])) as run:
             for some in (documents_of if self._is_bson else lines_of)(run.stdout):
                 number += len(some)
                 yield some
             _documents, self.end, self.token = counted(run, number)
-
-    def _by_session(self, dump: Asked, files: ExitStack) -> Batches:
-        """The same over a file, by its descriptor: what can be read only once is written to one without a name."""
-        # A session is imported where one is needed: that takes longer than the start of Python.
-        from .decoding import Decoding
-        from .plans import now
-        from .questions import Questions
-        from .readings import FIRST_BATCH, Reading
-
-        original = Original.of(dump) if isinstance(dump, Source) else Original.of_pieces(dump.pieces or ())
-        files.callback(original.close)
-        remaining = self._size
-        with Questions(f"/dev/fd/{original.rewound().fileno()}", self._program, group=self._group) as questions:
-            if self._index is not None:
-                now(questions.create_index(self._index, False))
-            decoding = Decoding("bson" if self._is_bson else "bytes")
-            reading: Reading[bytes] = Reading(self._request, "auto", remaining or FIRST_BATCH, self._after, decoding)
-            now(reading.open(questions))
-            while not reading.is_at_end and remaining != 0:
-                now(reading.read_on(questions, remaining))
-                some = [reading.held.documents.give() for _ in range(reading.held.documents.left)]
-                remaining = None if remaining is None else remaining - len(some)
-                yield some
-            self.end, self.token = reading.is_at_end, now(reading.token(questions))
 
 
 def documents_of(pipe: BufferedReader) -> Batches:

@@ -20,6 +20,8 @@ Hint = Union[str, Mapping[str, Any], Sequence["tuple[str, Any]"]]
 
 # Linux takes arguments of fewer than 131,072 bytes.
 LONGEST_ARGUMENT = 131_071
+# What the program takes of a filter in a file.
+LONGEST_FILTER = 16_777_216
 # A longer text is an argument after its option.
 _LONGEST_BESIDE = 1000
 
@@ -110,12 +112,13 @@ class Request(NamedTuple):
 
     @property
     def is_long(self) -> bool:
-        """Whether no argument can have it, so that it goes to `serve`."""
-        return max(len(self.filter.encode()), len(self.sort.encode())) > LONGEST_ARGUMENT
+        """Whether no argument can have the filter, so that it goes to a file."""
+        return len(self.filter.encode()) > LONGEST_ARGUMENT
 
-    def words(self) -> list[str]:
-        """The options of `find`."""
-        return [*_option("query", self.filter), *_option("sort", self.sort), f"--skip={self.skip}", f"--limit={self.limit}"]
+    def words(self, file: str | None = None) -> list[str]:
+        """The options of `find`, with the file of the filter, if it is in one."""
+        query = _option("query", self.filter) if file is None else [f"--queryFile={file}"]
+        return [*query, *_option("sort", self.sort), f"--skip={self.skip}", f"--limit={self.limit}"]
 
     def fields(self) -> list[tuple[str, str]]:
         """The further fields of a command, with the texts of their values."""

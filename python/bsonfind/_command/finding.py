@@ -7,7 +7,7 @@ import subprocess
 import sys
 from dataclasses import dataclass
 
-from .._ask.lines import Lines, counted, finding
+from .._ask.lines import counted, finding
 from .._ask.requests import Request
 from .._dumps.framing import LARGEST_INPUT
 from .._dumps.originals import temporary_file
@@ -15,7 +15,7 @@ from .._dumps.parts import MOST
 from .._dumps.sources import Source
 from .._errors import BsonfindError, CommandError, DumpError
 from .._run.processes import Dump, Run
-from .console import Console, print_text
+from .console import Console
 
 _BSON, _COUNT = "--bson", "--count"
 
@@ -38,8 +38,6 @@ class Finding:
             with Source(self.name, is_named=True) as source:
                 if not source.is_packed and (source.size or 0) > LARGEST_INPUT:
                     self._print_parts(source, console)
-                elif self.request.is_long:
-                    self._print_found(source, console)
                 else:
                     self._print_all(source)
         except DumpError as error:
@@ -62,24 +60,11 @@ class Finding:
             if sys.stderr:
                 print(run.messages(), end="", file=sys.stderr)
 
-    def _print_found(self, source: Source, console: Console) -> None:
-        """Prints what a session finds by a query that no argument can have."""
-        is_bson, documents = _BSON in self.form, 0
-        found = Lines(source, self.request, self.program, is_bson=is_bson, size=self.batch, index=self.index, after=self.after)
-        for batch in found.batches():
-            if _COUNT not in self.form:
-                console.documents([it if is_bson else it + b"\n" for it in batch])
-            documents += len(batch)
-        if _COUNT in self.form:
-            print_text(str(documents))
-        token = f", token {found.token}" if found.token else ""
-        console.note(f"{documents} documents, {'end' if found.end else 'more'}{token}")
-
     def _print_parts(self, source: Source, console: Console) -> None:
         """Asks a file that is too large for one run by parts, and then what these gave, joined in a file without a name."""
         name = f"cannot read {self.name}: it has more than {LARGEST_INPUT} bytes"
-        if self.batch is not None or self.after is not None or self.request.is_long:
-            raise DumpError(f"{name}, and is asked by parts: leave --batch, --after and long queries out")
+        if self.batch is not None or self.after is not None:
+            raise DumpError(f"{name}, and is asked by parts: leave --batch and --after out")
         with self._run(Dump(), self.request, _COUNT) as run:
             counted(run)  # A refused request is one at once.
         with temporary_file() as found:

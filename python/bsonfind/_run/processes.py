@@ -100,12 +100,19 @@ def start_error(program: object, error: OSError | TypeError | ValueError) -> Bso
     return kind(f"cannot start {program}: {getattr(error, 'strerror', None) or error}")
 
 
-def file_for_messages(program: object) -> IO[bytes]:
-    """A file in memory for standard error, so that no message is too long for a pipe, and no disk is too full for it."""
+def file_in_memory(program: object, held: bytes = b"") -> IO[bytes]:
+    """A file in memory for a program, so that nothing is too long for a pipe, and no disk is too full for it."""
     try:
-        return open(os.memfd_create("messages"), "w+b")
+        file = open(os.memfd_create("bsonkit"), "w+b")
     except OSError as error:
         raise start_error(program, error) from error
+    try:
+        file.write(held)
+        file.flush()
+    except BaseException:
+        file.close()
+        raise
+    return file
 
 
 class Feeder(threading.Thread):
@@ -140,8 +147,10 @@ class Run:
         stdin: int | IO[bytes] = subprocess.DEVNULL,
         stdout: int = subprocess.PIPE,
         group: Group | None = None,
+        passed: Sequence[int] = (),
     ) -> None:
-        streams = {"stdin": stdin if pieces is None else subprocess.PIPE, "stdout": stdout}
+        """The program has the descriptors that are passed too."""
+        streams = {"stdin": stdin if pieces is None else subprocess.PIPE, "stdout": stdout, "pass_fds": passed}
         self._start(words, group, streams)
         if pieces is not None:
             self._feed(pieces, self.stdin)
@@ -169,7 +178,7 @@ class Run:
         self._group = group or Group()
         self._feeder: Feeder | None = None
         self._owner = os.getpid()
-        self._stderr = file_for_messages(words[0])
+        self._stderr = file_in_memory(words[0])
         try:
             self.process = self._group.start(words, **streams, stderr=self._stderr)
         except BaseException:
