@@ -187,7 +187,8 @@ class Asking:
                 told = error.number if error.layer == "filter" else "sort" if error.text == "not a sort" else error.layer
                 self.tests.want(name, told == fault or (fault is not None and told in ("json", "path", "sort")), (error, fault))
             return
-        places = None if fault else model.answer(request)
+        # A count has no sort.
+        places = None if fault else model.answer(request._replace(sort=obj()) if is_count else request)
         wanted = None if places is None else len(places) if is_count else [encoded(model.documents[place]) for place in places]
         self.tests.want(name, found == wanted, (found, wanted))
 
