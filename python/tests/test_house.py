@@ -134,7 +134,6 @@ WIDE = {
     "_run/processes.Feeder.run": "ends the run, and is raised where that is waited for",
     "_run/processes.Run._feed": "ends the run, and raises it",
     "_run/processes.Run._start": "closes the file, and raises it",
-    "_run/processes.file_in_memory": "closes the file, and raises it",
 }
 
 

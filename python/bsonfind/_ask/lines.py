@@ -49,7 +49,9 @@ def finding(dump: Dump, request: Request, program: str, options: Sequence[str] =
     text = request.filter.encode()
     if len(text) > LONGEST_FILTER:
         raise ArgumentError(f"a filter has at most {LONGEST_FILTER} bytes, not {len(text)}")
-    with file_in_memory(wide, text) as file:
+    with file_in_memory(wide) as file:
+        file.write(text)
+        file.flush()
         words = request.words(f"/dev/fd/{file.fileno()}")
         return Run.over(dump, wide, "find", [*words, *options], passed=[file.fileno()], **how)
 

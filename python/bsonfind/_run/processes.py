@@ -100,19 +100,12 @@ def start_error(program: object, error: OSError | TypeError | ValueError) -> Bso
     return kind(f"cannot start {program}: {getattr(error, 'strerror', None) or error}")
 
 
-def file_in_memory(program: object, held: bytes = b"") -> IO[bytes]:
+def file_in_memory(program: object) -> IO[bytes]:
     """A file in memory for a program, so that nothing is too long for a pipe, and no disk is too full for it."""
     try:
-        file = open(os.memfd_create("bsonkit"), "w+b")
+        return open(os.memfd_create("bsonkit"), "w+b")
     except OSError as error:
         raise start_error(program, error) from error
-    try:
-        file.write(held)
-        file.flush()
-    except BaseException:
-        file.close()
-        raise
-    return file
 
 
 class Feeder(threading.Thread):
