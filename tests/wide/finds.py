@@ -185,6 +185,22 @@ class Finding:
             ran = self.run_bytes(command, "one.bson", "--queryFile", "query.json")
             self.tests.want(f"{command} with --queryFile", ran == (2, b"", USAGE), ran)
 
+    def too_long(self) -> None:
+        """A file of more than 4,294,967,295 bytes is refused by its size, after the query and before anything is read of it."""
+        with (self.room / "long.bson").open("wb") as file:
+            file.truncate(1 << 32)
+        for words, said in (
+            (("find", "long.bson"), "input too long"),
+            (("serve", "long.bson"), "input too long"),
+            (("find", "long.bson", "--query", '{"a":'), self.said_of('{"a":')),
+        ):
+            # Where it were read, memory would run out.
+            ran = subprocess.run(
+                ["sh", "-c", 'ulimit -v 100000; exec "$@"', "", PROGRAM, *words], cwd=self.room, input=b"", capture_output=True, check=False
+            )
+            wanted = (1, b"", f"bsonwide: {said}\n".encode())
+            self.tests.want(f"{words} of 4 GiB", (ran.returncode, ran.stdout, ran.stderr) == wanted, ran)
+
     def asked(self, text: bytes, name: str, *words: str) -> list[tuple[int, bytes, str]]:
         """A run by a query in a file of that name, and one by the same on standard input."""
         (self.room / name).write_bytes(text)
@@ -204,6 +220,7 @@ def main() -> int:
     with tempfile.TemporaryDirectory() as room:
         finding = Finding(random.Random(SEED), room)
         finding.in_files()
+        finding.too_long()
         for number in range(DUMPS):
             finding.find_in_dump(number)
     print(f"refused {finding.refused} times for types of numbers")

@@ -7,11 +7,12 @@ use crate::words::{is_standard_input, requests_version};
 use bd_cli_args::WordsFault;
 use bd_cli_scan::Status;
 use bd_cli_scan::output::{report_open_fault, report_read_fault, report_unwritten};
-use bd_io_device::{BufferedInput, ReadFault, SystemInput, SystemOutput};
+use bd_io_device::{BufferedInput, Input, OversizedInput, ReadFault, SystemInput, SystemOutput};
 use bd_io_stdout::{
     BufferedOutput, FlushingError, FlushingInput, OutputBuffer, WriteState, hand_on,
 };
 use std::cell::RefCell;
+use std::fs::File;
 use std::io::{BufReader, Read, Stderr, Stdout};
 use std::os::fd::AsRawFd;
 use std::{env, fs, io};
@@ -148,7 +149,18 @@ fn run_asking<P: Program>(
         let mut err = SystemOutput::new(rt.stderr());
         return report_read_fault(program.name(), ReadFault::Device, &mut err);
     }
+    if let Some(size) = oversize(&opened, program.longest(command)) {
+        let mut file = OversizedInput::new(size);
+        return run_reading(rt, program, command, query, &mut file, output_buffer);
+    }
     run_over(rt, program, command, query, opened, output_buffer)
+}
+
+/// The size of a regular file that is longer than this limit, if there is one.
+fn oversize(file: &File, longest: Option<u64>) -> Option<u64> {
+    let longest = longest?;
+    let data = file.metadata().ok()?;
+    (data.is_file() && longest < data.len()).then_some(data.len())
 }
 
 /// Runs a command over the input in its file.
@@ -168,7 +180,25 @@ fn run_over<P: Program, F: Read + Drop>(
     let Ok(file) = BufReader::with_capacity(alloc, program.block(command), file) else {
         return refuse(rt, program, &WordsFault::NoMemory, output_buffer);
     };
-    let mut file = BufferedInput::new(file);
+    run_reading(
+        rt,
+        program,
+        command,
+        query,
+        &mut BufferedInput::new(file),
+        output_buffer,
+    )
+}
+
+/// Runs a command over its file. Its commands come from standard input.
+fn run_reading<P: Program, I: Input>(
+    rt: &HostRuntime,
+    program: &P,
+    command: &P::Command,
+    query: Option<&[u8]>,
+    file: &mut I,
+    output_buffer: &Waiting,
+) -> Status {
     // They are read in blocks anyway.
     let mut commands = SystemInput::new(FlushingInput {
         reader: SystemInput::new(rt.reader()),
@@ -176,10 +206,10 @@ fn run_over<P: Program, F: Read + Drop>(
     });
     let (mut out, mut err) = outputs(rt, output_buffer);
     program.run(
-        alloc,
+        rt.alloc(),
         command,
         query,
-        &mut file,
+        file,
         &mut commands,
         &mut out,
         &mut err,

@@ -27,6 +27,11 @@ pub trait Program {
         None
     }
 
+    /// The greatest number of bytes that a command takes of its file, if it reads all of it first. A longer file is not read.
+    fn longest(&self, _command: &Self::Command) -> Option<u64> {
+        None
+    }
+
     /// How many bytes of its file a command requests from the system at once.
     fn block(&self, command: &Self::Command) -> usize;
 

@@ -28,12 +28,16 @@ pub enum InputFault {
 ///
 /// # Errors
 ///
-/// `Device` after a failed read, and no read is made after it; `TooLong` if there is one more byte; `NoMemory`.
+/// `Device` after a failed read, and no read is made after it; `TooLong` if there is one more byte, with no read if that is known before;
+/// `NoMemory`.
 pub fn read_input<R: Input>(alloc: Global, input: &mut R) -> Result<Vec<u8>, ReadFault>
     ensures input { MatchResult result (λ bytes.
         ReadsInput (over R.state input.old input.new) (Ok bytes.items)) (λ fault.
         ReadsInput (over R.state input.old input.new) (Err fault)) }
     ensures stops_reading { ReadsNoFurther R.read_gives input.old input.new }
 {
+    if matches!(input.least_bytes(), Some(n) if LIMITS.bytes < n) {
+        return Err(ReadFault::TooLong);
+    }
     read_all(alloc, input, LIMITS)
 }

@@ -1,5 +1,5 @@
 //! Devices that give bytes, with counts of calls and of failures.
-ghost use Rattle.std.specs.Prelude.{◌≡◌, ℕ, List, Option, None, Some, false, IfOk, IsTrue, OnOk, OnErr, length, ◌<◌, ◌≤◌, min, ⊤};
+ghost use Rattle.std.specs.Prelude.{◌≡◌, ℕ, List, Option, None, Some, false, IfOk, IfSome, IsTrue, OnOk, OnErr, length, ◌<◌, ◌≤◌, min, ⊤};
 ghost use Rattle.std.proofs.Common.{rules};
 ghost use Rattle.std.specs.Io.Buffered.{reader_remaining};
 ghost use Rattle.std.specs.Io.KnownBytes.{Consumes, ReadConsumes};
@@ -48,6 +48,14 @@ pub trait Input {
         ensures none { result ≡ false → (self.new ≡ self.old) × (buffer.new ≡ buffer.old) }
     {
         false
+    }
+
+    /// A number of bytes that the device has at least, if it knows one before they are read. It makes no read.
+    #[inline(always)]
+    fn least_bytes(&self) -> Option<u64>
+        ensures { IfSome result (λ n. IfSome (state self.now).remaining (λ xs. n ≤ length xs)) }
+    {
+        None
     }
 
     /// The count of reads is at most 2^64 - 1.
@@ -236,6 +244,43 @@ impl<'a> Input for MemoryInput<'a> {
         buffer[..n].copy_from_slice(given);
         self.bytes = rest;
         Ok(n)
+    }
+}
+
+/// A file that is not read, since it has more bytes than its reader takes. Each read fails.
+#[derive(Drop)]
+pub struct OversizedInput {
+    size: u64,
+    tally: Tally,
+}
+
+impl OversizedInput {
+    /// The device of a file of this many bytes, with both counts at 0.
+    pub fn new(size: u64) -> OversizedInput
+        ensures state { ⟦<OversizedInput as Input>⟧.state result
+            ≡ record { remaining = None; calls = 0; failures = 0 } }
+    {
+        let tally = Tally::default();
+        OversizedInput { size, tally }
+    }
+}
+
+impl Input for OversizedInput {
+    ghost use Rattle.bd_io_device.specs.Devices.{reader_of};
+
+    ghost state = { λ s. reader_of None s.tally };
+
+    ghost calls_fit = { λ s. Prim.search rules };
+
+    ghost failures_fit = { λ s. Prim.search rules };
+
+    fn read(&mut self, _buffer: &mut [u8]) -> Result<usize, DeviceFault> {
+        self.tally.call();
+        Err(self.tally.fail())
+    }
+
+    fn least_bytes(&self) -> Option<u64> {
+        Some(self.size)
     }
 }
 

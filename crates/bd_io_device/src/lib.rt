@@ -25,6 +25,6 @@ mod input;
 mod output;
 mod reading;
 
-pub use input::{BufferedInput, DeviceFault, Input, MemoryInput, SystemInput};
+pub use input::{BufferedInput, DeviceFault, Input, MemoryInput, OversizedInput, SystemInput};
 pub use output::{FailingWrite, MemoryOutput, Output, SystemOutput, write_all};
 pub use reading::{FillCounts, Limits, ReadFault, fill, fill_after, read_all};

@@ -39,3 +39,9 @@ ReadsNoCommands _ = Unit {0}
 abbrev pub is_serve : Command → Bool
 is_serve (commands.Serve by_value) = true
 is_serve _ = false
+
+-- whether a command reads its whole file before it prints anything
+abbrev pub reads_first : Command → Bool
+reads_first (commands.Find options form) = true
+reads_first (commands.Serve by_value) = true
+reads_first _ = false

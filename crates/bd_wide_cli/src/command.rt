@@ -2,7 +2,7 @@
 
 ghost use Rattle.bd_io_device.specs.Devices.{over};
 ghost use Rattle.std.specs.Prelude.{◌≡◌, option_map};
-ghost use Rattle.bd_wide_cli.specs.Command.{ReadsNoCommands, RunsCommand, is_serve, query_text};
+ghost use Rattle.bd_wide_cli.specs.Command.{ReadsNoCommands, RunsCommand, is_serve, query_text, reads_first};
 ghost use Rattle.bd_wide_cli.specs.Dump.{format_named};
 
 use crate::dump::dump;
@@ -106,4 +106,11 @@ pub fn is_serve(command: &Command) -> bool
     ensures { result ≡ is_serve command.now }
 {
     matches!(command, Command::Serve { .. })
+}
+
+/// Whether a command reads its whole file before it prints anything.
+pub fn reads_first(command: &Command) -> bool
+    ensures { result ≡ reads_first command.now }
+{
+    matches!(command, Command::Find(..) | Command::Serve { .. })
 }

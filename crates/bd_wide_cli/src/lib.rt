@@ -36,5 +36,5 @@ mod dump;
 mod output;
 mod pack;
 
-pub use command::{Command, is_serve, read_format, run};
+pub use command::{Command, is_serve, read_format, reads_first, run};
 pub use output::{PROGRAM, report, version};

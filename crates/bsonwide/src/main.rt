@@ -5,7 +5,8 @@ use bd_cli_args::{WideOrder, WordsFault, parse_wide_words};
 use bd_cli_main::Program;
 use bd_cli_scan::Status;
 use bd_io_device::{Input, Output};
-use bd_wide_cli::{Command, PROGRAM, is_serve, read_format, version};
+use bd_value::LONGEST_INPUT;
+use bd_wide_cli::{Command, PROGRAM, is_serve, read_format, reads_first, version};
 use std::alloc::Global;
 use std::process::ExitCode;
 
@@ -77,6 +78,10 @@ impl Program for Bsonwide {
 
     fn query_file<'a>(&self, command: &'a Self::Command) -> Option<&'a str> {
         command.query_file.as_deref()
+    }
+
+    fn longest(&self, command: &Self::Command) -> Option<u64> {
+        reads_first(&command.command).then_some(LONGEST_INPUT)
     }
 
     fn block(&self, _command: &Self::Command) -> usize {
