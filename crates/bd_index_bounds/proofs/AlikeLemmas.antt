@@ -9,7 +9,7 @@ use Rattle.bd_value.specs.Tree as trees
 use Rattle.bd_value.specs.declared.node.Kind.TheVariants as kinds
 use Rattle.bd_value.proofs.OrderLemmas.{cmp_total}
 use Rattle.bd_path.specs.Reach.{Names}
-use Rattle.bd_query_filter.specs.Filter.{Filter, all_of, some_of, none_of, at_path, Filters, no_filters, filter, Operator, equals, compares, is_in, has_all, has_type, has_size}
+use Rattle.bd_query_filter.specs.Filter.{Filter, all_of, some_of, none_of, at_path, Filters, no_filters, filter, Operator, equals, differs, compares, is_in, is_not_in, has_all, has_type, has_size}
 use Rattle.bd_query_filter.specs.Filter.{exists, negates, has_element, has_document, Operators, no_operators, operator}
 use Rattle.bd_query_filter.specs.{FilterMatch.is_array, FilterMatch.is_related, FilterMatch.relates, declared.operand.Relation.Relation}
 use Rattle.bd_index_bounds.specs.Bounds.{KeyBounds, KeySet, all_bounds, all_element_bounds, bounds, bounds_at, bounds_here, conjunction, disjunction}
@@ -133,8 +133,10 @@ module _ (x y : Tree) (e : equal x y ≡ true) where
 
   same_here : (o : Operator) (m : Bool) → Same (bounds_here o m)
   same_here (equals v) m = same_keys_of_equal v
+  same_here (differs v) m = refl
   same_here (compares r v) m = same_chosen (is_array v) None (Some (is_related r v)) refl (same_related r v)
   same_here (is_in vs) m = same_union keys_of_equal vs same_keys_of_equal
+  same_here (is_not_in vs) m = refl
   same_here (has_all vs) m = same_each m keys_of_equal vs same_keys_of_equal
   same_here (has_type ks) m = same_chosen (is_listed kinds.Array ks) None (Some (keys_of_types ks)) refl (same_types ks)
   same_here (has_size n) m = same_chosen (n == 0) (Some (keys_equal_to (leaf trees.undefined))) None (same_equal (leaf trees.undefined)) refl

@@ -2,8 +2,8 @@
 use Rattle.std.proofs.Common.{◌≡◌, ℕ, pos, Bool, true, false, None, List, [], ◌∷◌, map, refl, codes}
 use Rattle.bd_value.specs.Tree.{Tree, leaf, doc, array, int32, null, undefined, fields_of, items_of}
 use Rattle.bd_path.specs.{Key.keys, Reach.Names}
-use Rattle.bd_query_filter.specs.Filter.{Filter, all_of, some_of, at_path, filters_from, operators_from, negation_of}
-use Rattle.bd_query_filter.specs.Filter.{Operator, equals, compares, is_in, has_all, has_size, exists, has_element, has_document}
+use Rattle.bd_query_filter.specs.Filter.{Filter, all_of, some_of, at_path, filters_from, operators_from}
+use Rattle.bd_query_filter.specs.Filter.{Operator, equals, differs, compares, is_in, has_all, has_size, exists, has_element, has_document}
 use Rattle.bd_query_filter.specs.declared.operand.Relation.TheVariants.{Above, AtLeast, Below}
 use Rattle.bd_index_bounds.specs.Bounds.{bounds, is_inside}
 
@@ -72,7 +72,7 @@ other_path = refl
 
 -- ---- {"a":{"$ne":null}} and {"$or":[{"a":1},{"b":1}]} have none
 
-not_null : bounds (on a (negation_of (equals (leaf null)) ∷ [])) a false ≡ None
+not_null : bounds (on a (differs (leaf null) ∷ [])) a false ≡ None
 not_null = refl
 
 either_path : bounds (some_of (filters_from (on a (equals (number 1) ∷ []) ∷ on (codes "b" ∷ []) (equals (number 1) ∷ []) ∷ []))) a false ≡ None

@@ -6,7 +6,7 @@ use Rattle.bd_value.specs.{Order.equal, Tree.elements_in, Tree.Tree, Tree.array}
 use Rattle.bd_path.specs.{Key.keys, Key.sparse_keys, Reach.Names, Reach.is_document, Reach.reach}
 use Rattle.bd_path.proofs.SortLemmas.{distinct_has, equal_back, equal_on, sparse_has}
 use Rattle.bd_path.proofs.ReachLemmas.{In, Found, found_from, any_at}
-use Rattle.bd_query_filter.specs.Filter.{Filter, all_of, some_of, none_of, at_path, Filters, no_filters, filter, Operator, equals, compares, is_in, has_all, has_type, has_size}
+use Rattle.bd_query_filter.specs.Filter.{Filter, all_of, some_of, none_of, at_path, Filters, no_filters, filter, Operator, equals, differs, compares, is_in, is_not_in, has_all, has_type, has_size}
 use Rattle.bd_query_filter.specs.Filter.{exists, negates, has_element, has_document, Operators, no_operators, operator}
 use Rattle.bd_query_filter.specs.FilterMatch.{all_hold, all_match, any_equal, holds, is_nonempty, matches, some_match}
 use Rattle.bd_index_bounds.specs.Bounds.{KeyBounds, all_bounds, bounds, bounds_at, bounds_here, conjunction, disjunction, is_among, is_inside, keys_of_each}
@@ -70,8 +70,10 @@ sound_has_all t p false (v ∷ vs) fine e =
 
 sound_here : (o : Operator) (t : Tree) (p : Names) (m : Bool) → Fine m (keys_of t p) → holds o (reach t p) ≡ true → Found (is_among (bounds_here o m)) (keys_of t p)
 sound_here (equals v) t p m fine h = sound_equal t p v h
+sound_here (differs v) t p m fine h = everywhere t p
 sound_here (compares r v) t p m fine h = sound_compares t p m r v h
 sound_here (is_in vs) t p m fine h = sound_in t p vs h
+sound_here (is_not_in vs) t p m fine h = everywhere t p
 sound_here (has_all vs) t p m fine h = sound_has_all t p m vs fine h
 sound_here (has_type ks) t p m fine h = sound_type t p m ks h
 sound_here (has_size n) t p m fine h = sound_size t p m n h

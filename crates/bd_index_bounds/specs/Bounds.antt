@@ -10,7 +10,7 @@ use Rattle.bd_value.specs.declared.node.Kind.TheVariants as kinds
 use Rattle.bd_value.specs.declared.node.Class.TheVariants as classes
 use Rattle.bd_path.specs.Reach.{Names}
 use Rattle.bd_query_filter.specs.Filter.{Filter, all_of, some_of, none_of, at_path, Filters, no_filters, filter, Operator}
-use Rattle.bd_query_filter.specs.Filter.{equals, compares, is_in, has_all, has_type, has_size, exists, negates, has_element}
+use Rattle.bd_query_filter.specs.Filter.{equals, differs, compares, is_in, is_not_in, has_all, has_type, has_size, exists, negates, has_element}
 use Rattle.bd_query_filter.specs.Filter.{has_document, Operators, no_operators, operator}
 use Rattle.bd_query_filter.specs.{FilterMatch.is_array, FilterMatch.is_related, NameKind.is_kind}
 
@@ -96,8 +96,10 @@ is_listed kind types = list_any (λ k. is_kind k kind) types
 -- A comparison with an array, and `$type` that lists arrays, give none: an array is itself no key.
 abbrev pub bounds_here : Operator → Bool → KeyBounds
 bounds_here (equals v) multikey = Some (keys_of_equal v)
+bounds_here (differs v) multikey = None
 bounds_here (compares r v) multikey = if is_array v then None else Some (is_related r v)
 bounds_here (is_in vs) multikey = Some (union (map keys_of_equal vs))
+bounds_here (is_not_in vs) multikey = None
 bounds_here (has_all vs) multikey = Some (keys_of_each multikey (map keys_of_equal vs))
 bounds_here (has_type types) multikey = if is_listed kinds.Array types then None else Some (keys_of_types types)
 bounds_here (has_size n) multikey = if n == 0 then Some (keys_equal_to (leaf trees.undefined)) else None

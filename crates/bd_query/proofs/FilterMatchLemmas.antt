@@ -1,6 +1,6 @@
 -- Whether a document matches a filter, part by part.
 use Rattle.std.proofs.Common.{◌+◌, ℕ, suc, map}
-use Rattle.bd_query_filter.specs.Filter.{Filter, all_of, some_of, none_of, at_path, Filters, no_filters, filter, Operator, equals, compares, is_in, has_all, has_type, has_size}
+use Rattle.bd_query_filter.specs.Filter.{Filter, all_of, some_of, none_of, at_path, Filters, no_filters, filter, Operator, equals, differs, compares, is_in, is_not_in, has_all, has_type, has_size}
 use Rattle.bd_query_filter.specs.Filter.{exists, negates, has_element, has_document, Operators, no_operators, operator, filters_from, operators_from}
 use Rattle.bd_query_filter.specs.Filter.{filter_tree, operator_tree}
 use Rattle.bd_query.specs.declared.filter_match.Body.{Body}
@@ -21,8 +21,10 @@ abbrev mutual
 
   pub operator_size : Operator → ℕ
   operator_size (equals v) = 0
+  operator_size (differs v) = 0
   operator_size (compares r v) = 0
   operator_size (is_in vs) = 0
+  operator_size (is_not_in vs) = 0
   operator_size (has_all vs) = 0
   operator_size (has_type kinds) = 0
   operator_size (has_size n) = 0

@@ -8,7 +8,7 @@ use Rattle.bd_path.specs.{Reach.Names, Path.path_of, declared.path.PathFault.Pat
 use Rattle.bd_query_filter.specs.{Fault.Refusal, Fault.refuse, NameKind.name_kind_of}
 use Rattle.bd_query_filter.specs.{declared.filter_of.PlainOperator.PlainOperator, declared.filter_of.NameKind.NameKind}
 use Rattle.bd_query_filter.specs.Filter.{Filter, all_of, filters_from, operators_from, Operator, equals, has_all, has_document, has_element}
-use Rattle.bd_query_filter.specs.Filter.{is_in, negates, negation_of}
+use Rattle.bd_query_filter.specs.Filter.{is_in, is_not_in, negates}
 use Rattle.bd_query_filter.specs.FilterBad.{AreBadFilters, BreaksHere, BreaksInside, BreaksUnder, HasBadElement, HasBadMember, HasBadOperator, HasBadPair, IsBadAt}
 use Rattle.bd_query_filter.specs.FilterBad.{IsBadElemMatch, IsBadMember, IsBadNot, IsBadOperator, IsBadPair, IsBadPlain, IsBadValue}
 use Rattle.bd_query_filter.specs.FilterOf.{element_operator, filter_of, filters_of, first_is_operator, has_value_form, inner_part, logical_filter}
@@ -76,7 +76,7 @@ array_agrees f ts = as_agrees f (member_values 0 ts) (HasBadElement 0 ts) (value
 
 plain_agrees : (p : PlainOperator) (t : Tree) → Agrees (plain_operator p t) (IsBadPlain p t)
 plain_agrees plain.In (array ts) = array_agrees is_in ts
-plain_agrees plain.NotIn (array ts) = array_agrees (λ vs. negation_of (is_in vs)) ts
+plain_agrees plain.NotIn (array ts) = array_agrees is_not_in ts
 plain_agrees plain.All (array ts) = array_agrees has_all ts
 plain_agrees p t = itself_agrees (plain_operator p t)
 

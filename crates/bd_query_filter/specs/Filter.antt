@@ -23,12 +23,14 @@ mutual
     no_filters : Filters
     filter : Filter → Filters → Filters
 
-  -- an operator of a path; `$ne` and `$nin` are the negations of `$eq` and `$in`,
+  -- an operator of a path; `$ne` and `$nin` are operators of their own, not `$not` of `$eq` and `$in`,
   -- and `$elemMatch` has operators for an element, or a filter
   pub data Operator : Type 0 where
     equals : Tree → Operator
+    differs : Tree → Operator
     compares : Relation → Tree → Operator
     is_in : List Tree → Operator
+    is_not_in : List Tree → Operator
     has_all : List Tree → Operator
     has_type : List Kind → Operator
     has_size : ℕ → Operator
@@ -52,10 +54,6 @@ abbrev pub operators_from : List Operator → Operators
 operators_from [] = no_operators
 operators_from (o ∷ os) = operator o (operators_from os)
 
--- the operator that holds if this one does not
-abbrev pub negation_of : Operator → Operator
-negation_of o = negates (operator o no_operators)
-
 -- ---- in memory
 
 -- the members of `$in` and `$nin` in memory, in the order of the query
@@ -73,16 +71,16 @@ filter_step (Filter-F.Or fs) = some_of (filters_from fs.items)
 filter_step (Filter-F.Nor fs) = none_of (filters_from fs.items)
 filter_step (Filter-F.Field path os) = at_path (names_of path) (operators_from os.items)
 
--- one level of an operator, whose parts are already read; `$ne` and `$nin` become negations
+-- one level of an operator, whose parts are already read
 abbrev pub operator_step : Operator-F Filter Operator → Operator
 operator_step (Operator-F.Equal v) = equals (tree_of v)
-operator_step (Operator-F.NotEqual v) = negation_of (equals (tree_of v))
+operator_step (Operator-F.NotEqual v) = differs (tree_of v)
 operator_step (Operator-F.Greater v) = compares relation.Above (tree_of v)
 operator_step (Operator-F.GreaterOrEqual v) = compares relation.AtLeast (tree_of v)
 operator_step (Operator-F.Less v) = compares relation.Below (tree_of v)
 operator_step (Operator-F.LessOrEqual v) = compares relation.AtMost (tree_of v)
 operator_step (Operator-F.In members) = is_in (trees_in members)
-operator_step (Operator-F.NotIn members) = negation_of (is_in (trees_in members))
+operator_step (Operator-F.NotIn members) = is_not_in (trees_in members)
 operator_step (Operator-F.All vs) = has_all (map tree_of vs.items)
 operator_step (Operator-F.Size n) = has_size n
 operator_step (Operator-F.Exists b) = exists b

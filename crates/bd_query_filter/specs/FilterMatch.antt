@@ -8,7 +8,7 @@ use Rattle.bd_value.specs.{Tree.leaf, Tree.array, declared.node.Kind.Kind}
 use Rattle.bd_value.specs.Tree as trees
 use Rattle.bd_path.specs.Reach.{End, is_document, reach}
 use Rattle.bd_query_filter.specs.Filter.{Filter, all_of, some_of, none_of, at_path, Filters, no_filters, filter, Operator}
-use Rattle.bd_query_filter.specs.Filter.{equals, compares, is_in, has_all, has_type, has_size, exists, negates, has_element}
+use Rattle.bd_query_filter.specs.Filter.{equals, differs, compares, is_in, is_not_in, has_all, has_type, has_size, exists, negates, has_element}
 use Rattle.bd_query_filter.specs.Filter.{has_document, Operators, no_operators, operator}
 use Rattle.bd_query_filter.specs.{NameKind.is_kind, declared.operand.Relation.Relation}
 use Rattle.bd_query_filter.specs.declared.operand.Relation.TheVariants as relation
@@ -85,8 +85,10 @@ abbrev mutual
   -- whether an operator holds of the ends of its path
   pub holds : Operator → List End → Bool
   holds (equals v) ends = any_equal ends v
+  holds (differs v) ends = not (any_equal ends v)
   holds (compares r v) ends = any_candidate (λ e. is_related r v (value_or_null e)) ends
   holds (is_in vs) ends = list_any (any_equal ends) vs
+  holds (is_not_in vs) ends = not (list_any (any_equal ends) vs)
   holds (has_all vs) ends = is_nonempty vs && list_all (any_equal ends) vs
   holds (has_type kinds) ends = any_candidate (is_value (is_of_type kinds)) ends
   holds (has_size n) ends = list_any (is_value (is_of_size n)) ends
@@ -104,8 +106,10 @@ abbrev mutual
   -- whether an operator of `$elemMatch` holds of one element, taken alone
   pub accepts : Operator → Tree → Bool
   accepts (equals v) t = equal t v
+  accepts (differs v) t = not (equal t v)
   accepts (compares r v) t = is_related r v t
   accepts (is_in vs) t = list_any (equal t) vs
+  accepts (is_not_in vs) t = not (list_any (equal t) vs)
   accepts (has_all vs) t = is_nonempty vs && list_all (equal t) vs
   accepts (has_type kinds) t = is_of_type kinds t
   accepts (has_size n) t = is_of_size n t

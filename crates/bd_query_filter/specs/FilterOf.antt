@@ -10,9 +10,9 @@ use Rattle.bd_value.specs.Tree.{fields_of}
 use Rattle.bd_path.specs.{Reach.Names, Path.path_of, declared.path.PathFault.PathFault}
 use Rattle.bd_query_filter.specs.Fault.{Refusal, deeper, refuse}
 use Rattle.bd_query_filter.specs.declared.filter_of.{LogicalOperator.LogicalOperator, PlainOperator.PlainOperator, NameKind.NameKind}
-use Rattle.bd_query_filter.specs.Filter.{Filter, all_of, some_of, none_of, at_path, filters_from, Operator, equals, compares}
-use Rattle.bd_query_filter.specs.Filter.{is_in, has_all, has_type, has_size, exists, negates, has_element, has_document}
-use Rattle.bd_query_filter.specs.Filter.{negation_of, operators_from}
+use Rattle.bd_query_filter.specs.Filter.{Filter, all_of, some_of, none_of, at_path, filters_from, Operator, equals, differs, compares}
+use Rattle.bd_query_filter.specs.Filter.{is_in, is_not_in, has_all, has_type, has_size, exists, negates, has_element, has_document}
+use Rattle.bd_query_filter.specs.{Filter.operators_from}
 use Rattle.bd_query_filter.specs.NameKind.{begins_with_dollar, kinds_named, kinds_numbered, name_kind_of}
 use Rattle.bd_query_filter.specs.declared.fault.FilterFaultKind.TheVariants as faults
 use Rattle.bd_query_filter.specs.declared.filter_of.LogicalOperator.TheVariants as logical
@@ -111,10 +111,10 @@ or_bad_operand (Some x) = Ok x
 -- no regular expression except after `$eq`, and no MinKey or MaxKey after `$gt`, `$gte`, `$lt`, `$lte`
 abbrev pub plain_operator : PlainOperator → Tree → Result Operator Refusal
 plain_operator plain.Equal t = Ok (equals t)
-plain_operator plain.NotEqual t = read_as (λ v. negation_of (equals v)) (unless_omitted (is_regex t) t)
+plain_operator plain.NotEqual t = read_as differs (unless_omitted (is_regex t) t)
 plain_operator (plain.Order r) t = read_as (compares r) (unless_omitted (is_regex t || is_bound t) t)
 plain_operator plain.In t = read_as is_in (members_of t)
-plain_operator plain.NotIn t = read_as (λ vs. negation_of (is_in vs)) (members_of t)
+plain_operator plain.NotIn t = read_as is_not_in (members_of t)
 plain_operator plain.All t = read_as has_all (members_of t)
 plain_operator plain.Size t = read_as has_size (or_bad_operand (size_value t))
 plain_operator plain.Exists t = read_as exists (or_bad_operand (truth_value t))

@@ -3,7 +3,7 @@ use Rattle.std.proofs.Common.{◌≡◌, ◌∙◌, Some, ap, subst}
 use Rattle.bd_value.specs.Tree.{AreParts, Doc, Tree, array, code_scope, doc, fields_of, fields_of-pairs_of, leaf, scope_of}
 use Rattle.bd_wide_find.specs.Types.{fields_are_alike, is_alike}
 use Rattle.bd_query_filter.specs.Filter.{Filter, all_of, some_of, none_of, at_path, Filters, no_filters, filter, Operator}
-use Rattle.bd_query_filter.specs.Filter.{equals, compares, is_in, has_all, has_type, has_size, exists, negates, has_element}
+use Rattle.bd_query_filter.specs.Filter.{equals, differs, compares, is_in, is_not_in, has_all, has_type, has_size, exists, negates, has_element}
 use Rattle.bd_query_filter.specs.Filter.{has_document, Operators, no_operators, operator}
 use Rattle.bd_wide_order.specs.Renumber.{Codes, below, renumber_filter, renumber_filters, renumber_operator, renumber_operators}
 use Rattle.bd_wide_order.specs.Ranks.{TypesAlike, EachTypesAlike, OperatorAlike, OperatorsAlike}
@@ -22,8 +22,10 @@ mutual
 
   operator_renumbered : (c : Codes) (o : Operator) → OperatorAlike o → OperatorAlike (renumber_operator c o)
   operator_renumbered c (equals v) a = a
+  operator_renumbered c (differs v) a = a
   operator_renumbered c (compares r v) a = a
   operator_renumbered c (is_in vs) a = a
+  operator_renumbered c (is_not_in vs) a = a
   operator_renumbered c (has_all vs) a = a
   operator_renumbered c (has_type ks) a = a
   operator_renumbered c (has_size n) a = a

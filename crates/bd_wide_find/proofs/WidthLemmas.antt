@@ -4,7 +4,7 @@ use Rattle.std.specs.Prelude.{ℤ, true}
 use Rattle.bd_value.specs.Tree.{Tree, leaf, int32, int64, doc, array, code_scope, Items, no_items, item, Fields, no_fields, field, Doc}
 use Rattle.bd_path.specs.{Reach.Names}
 use Rattle.bd_query_filter.specs.Filter.{Filter, all_of, some_of, none_of, at_path, Filters, no_filters, filter, Operator}
-use Rattle.bd_query_filter.specs.Filter.{equals, compares, is_in, has_all, has_type, has_size, exists, negates, has_element}
+use Rattle.bd_query_filter.specs.Filter.{equals, differs, compares, is_in, is_not_in, has_all, has_type, has_size, exists, negates, has_element}
 use Rattle.bd_query_filter.specs.Filter.{has_document, Operators, no_operators, operator}
 use Rattle.bd_wide_rank.specs.Rank.{code}
 use Rattle.bd_wide_copy.specs.Copy.{coded, coded_items, coded_fields, coded_document, int32_of}
@@ -90,8 +90,10 @@ module _ (table : List ℤ) where
 
     operator_is_wide : (o : Operator) → renumber_operator as_int64 (renumber_operator (table_codes table) o) ≡ renumber_operator (table_codes table) o
     operator_is_wide (equals v) = ap equals (value_is_wide v)
+    operator_is_wide (differs v) = ap differs (value_is_wide v)
     operator_is_wide (compares r v) = ap (compares r) (value_is_wide v)
     operator_is_wide (is_in vs) = ap is_in (values_are_wide vs)
+    operator_is_wide (is_not_in vs) = ap is_not_in (values_are_wide vs)
     operator_is_wide (has_all vs) = ap has_all (values_are_wide vs)
     operator_is_wide (has_type ks) = refl
     operator_is_wide (has_size n) = refl
@@ -117,8 +119,10 @@ module _ (table : List ℤ) where
 
     operator_needs : (o : Operator) → OperatorAlike o → OperatorNeeds as_int64 (renumber_operator (table_codes table) o)
     operator_needs (equals v) a = tt
+    operator_needs (differs v) a = tt
     operator_needs (compares r v) a = tt
     operator_needs (is_in vs) a = tt
+    operator_needs (is_not_in vs) a = tt
     operator_needs (has_all vs) a = tt
     operator_needs (has_type ks) a = a
     operator_needs (has_size n) a = tt

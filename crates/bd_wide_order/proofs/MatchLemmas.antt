@@ -9,7 +9,7 @@ use Rattle.bd_value.specs.Tree.{Tree, leaf, int32, int64, doc, array, code_scope
 use Rattle.bd_value.specs.declared.node.Kind.{Kind}
 use Rattle.bd_path.specs.Reach.{End, Names, is_document, reach}
 use Rattle.bd_query_filter.specs.Filter.{Filter, all_of, some_of, none_of, at_path, Filters, no_filters, filter, Operator}
-use Rattle.bd_query_filter.specs.Filter.{equals, compares, is_in, has_all, has_type, has_size, exists, negates, has_element}
+use Rattle.bd_query_filter.specs.Filter.{equals, differs, compares, is_in, is_not_in, has_all, has_type, has_size, exists, negates, has_element}
 use Rattle.bd_query_filter.specs.Filter.{has_document, Operators, no_operators, operator}
 use Rattle.bd_query_filter.specs.FilterMatch.{is_array, value_or_null, candidates, any_candidate, is_value, relates, is_related, is_of_type, is_of_size, is_nonempty, any_equal}
 use Rattle.bd_query_filter.specs.FilterMatch.{matches, all_match, some_match, holds, all_hold, accepts, all_accept}
@@ -150,10 +150,12 @@ mutual
   holds_stays : (c : Codes) → KeepOrder c → (o : Operator) → OperatorNeeds c o → (es : List End) → Each (EndIsOf c) es
       → holds (renumber_operator c o) (map (option_map (renumber c)) es) ≡ holds o es
   holds_stays c up (equals v) a es b = equal_stays c up es b v
+  holds_stays c up (differs v) a es b = ap not (holds_stays c up (equals v) a es b)
   holds_stays c up (compares o v) a es b =
       any_candidate_stays c (λ e. is_related o (renumber c v) (value_or_null e)) (λ e. is_related o v (value_or_null e))
       (λ e d. ap (is_related o (renumber c v)) (null_stays c e) ∙ related_stays c up o v (value_or_null e) (null_is_of c e d)) es b
   holds_stays c up (is_in vs) a es b = any_map (any_equal (map (re c) es)) (any_equal es) (renumber c) Anything (λ v d. equal_stays c up es b v) vs (each_anything vs)
+  holds_stays c up (is_not_in vs) a es b = ap not (holds_stays c up (is_in vs) a es b)
   holds_stays c up (has_all vs) a es b =
       ap₂ ◌&&◌ (nonempty_stays c vs) (all_map (any_equal (map (re c) es)) (any_equal es) (renumber c) Anything (λ v d. equal_stays c up es b v) vs (each_anything vs))
   holds_stays c up (has_type ks) a es b =
@@ -175,8 +177,10 @@ mutual
 
   accepts_stays : (c : Codes) → KeepOrder c → (o : Operator) → OperatorNeeds c o → (t : Tree) → IsOf c t → accepts (renumber_operator c o) (renumber c t) ≡ accepts o t
   accepts_stays c up (equals v) a t b = equals_stay c up t v b
+  accepts_stays c up (differs v) a t b = ap not (accepts_stays c up (equals v) a t b)
   accepts_stays c up (compares o v) a t b = related_stays c up o v t b
   accepts_stays c up (is_in vs) a t b = any_map (equal (renumber c t)) (equal t) (renumber c) Anything (λ v d. equals_stay c up t v b) vs (each_anything vs)
+  accepts_stays c up (is_not_in vs) a t b = ap not (accepts_stays c up (is_in vs) a t b)
   accepts_stays c up (has_all vs) a t b =
       ap₂ ◌&&◌ (nonempty_stays c vs) (all_map (equal (renumber c t)) (equal t) (renumber c) Anything (λ v d. equals_stay c up t v b) vs (each_anything vs))
   accepts_stays c up (has_type ks) a t b = type_stays c ks a t

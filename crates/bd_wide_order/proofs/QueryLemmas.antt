@@ -8,8 +8,8 @@ use Rattle.bd_value.specs.Tree.{Tree, leaf, int32, int64, doc, array, code_scope
 use Rattle.bd_path.specs.{Reach.Names, Path.components_of, Path.path_of, Sort.SortPath, declared.path.PathFault.PathFault}
 use Rattle.bd_path.specs.declared.path.PathFault.TheVariants.{EmptyComponent, TooLong}
 use Rattle.bd_query_filter.specs.Fault.{Refusal, refuse}
-use Rattle.bd_query_filter.specs.Filter.{Filter, all_of, some_of, none_of, at_path, filters_from, filter, Operator, equals, compares, is_in, has_all, has_type, has_size, exists, negates, has_element, has_document}
-use Rattle.bd_query_filter.specs.Filter.{negation_of, operators_from, operator}
+use Rattle.bd_query_filter.specs.Filter.{Filter, all_of, some_of, none_of, at_path, filters_from, filter, Operator, equals, differs, compares, is_in, is_not_in, has_all, has_type, has_size, exists, negates, has_element, has_document}
+use Rattle.bd_query_filter.specs.Filter.{operators_from, operator}
 use Rattle.bd_query_filter.specs.NameKind.{name_kind_of}
 use Rattle.bd_query_filter.specs.FilterOf.{read_as, read_at, is_regex, is_bound, first_is_operator, has_operators, unless_omitted, member_value, member_values, members_of}
 use Rattle.bd_query_filter.specs.FilterOf.{size_value, truth_value, operand_kinds, or_bad_operand, plain_operator, logical_filter, inner_part, has_value_form, pair_filter, operator_of}
@@ -117,11 +117,11 @@ module _ (c : Codes) where
   plain_stays : (p : PlainOperator) (t : Tree) → plain_operator p (plain_operand p t (r t)) ≡ read_as (renumber_operator c) (plain_operator p t)
   plain_stays plain.Equal t = refl
   plain_stays plain.NotEqual t =
-      read_on r (renumber_operator c) (λ v. negation_of (equals v)) (λ v. negation_of (equals v)) (λ v. refl) (unless_omitted (is_regex t) t) _ (unless_stays _ _ t (regex_stays t))
+      read_on r (renumber_operator c) differs differs (λ v. refl) (unless_omitted (is_regex t) t) _ (unless_stays _ _ t (regex_stays t))
   plain_stays (plain.Order o) t =
       read_on r (renumber_operator c) (compares o) (compares o) (λ v. refl) (unless_omitted (is_regex t || is_bound t) t) _ (unless_stays _ _ t (ap₂ ◌||◌ (regex_stays t) (bound_stays t)))
   plain_stays plain.In t = read_on (map r) (renumber_operator c) is_in is_in (λ v. refl) (members_of t) _ (list_stays t)
-  plain_stays plain.NotIn t = read_on (map r) (renumber_operator c) (λ vs. negation_of (is_in vs)) (λ vs. negation_of (is_in vs)) (λ v. refl) (members_of t) _ (list_stays t)
+  plain_stays plain.NotIn t = read_on (map r) (renumber_operator c) is_not_in is_not_in (λ v. refl) (members_of t) _ (list_stays t)
   plain_stays plain.All t = read_on (map r) (renumber_operator c) has_all has_all (λ v. refl) (members_of t) _ (list_stays t)
   plain_stays plain.Size t = sym (read_twice (renumber_operator c) has_size (or_bad_operand (size_value t)))
   plain_stays plain.Exists t = sym (read_twice (renumber_operator c) exists (or_bad_operand (truth_value t)))

@@ -5,7 +5,7 @@ use Rattle.bd_value.specs.Tree.{Tree}
 use Rattle.bd_path.specs.{Reach.Names}
 use Rattle.bd_query_filter.specs.FilterMatch.{matches}
 use Rattle.bd_query_filter.specs.Filter.{Filter, all_of, some_of, none_of, at_path, Filters, no_filters, filter, Operator}
-use Rattle.bd_query_filter.specs.Filter.{equals, compares, is_in, has_all, has_type, has_size, exists, negates, has_element}
+use Rattle.bd_query_filter.specs.Filter.{equals, differs, compares, is_in, is_not_in, has_all, has_type, has_size, exists, negates, has_element}
 use Rattle.bd_query_filter.specs.Filter.{has_document, Operators, no_operators, operator}
 use Rattle.bd_wide_order.specs.Renumber.{KeepOrder, ReadsAlike, IsOf, FilterNeeds, FiltersNeed, OperatorNeeds, OperatorsNeed, renumber, renumber_filter}
 use Rattle.bd_wide_rank.proofs.OrderLemmas.{codes_rise}
@@ -38,8 +38,10 @@ mutual
 
   operator_needs : (table : List ℤ) (o : Operator) → OperatorAlike o → OperatorNeeds (table_codes table) o
   operator_needs table (equals v) a = tt
+  operator_needs table (differs v) a = tt
   operator_needs table (compares r v) a = tt
   operator_needs table (is_in vs) a = tt
+  operator_needs table (is_not_in vs) a = tt
   operator_needs table (has_all vs) a = tt
   operator_needs table (has_type ks) a = a
   operator_needs table (has_size n) a = tt

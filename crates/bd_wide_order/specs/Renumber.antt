@@ -8,7 +8,7 @@ use Rattle.bd_value.specs.declared.node.Kind.{Kind}
 use Rattle.bd_value.specs.declared.node.Kind.TheVariants as kinds
 use Rattle.bd_path.specs.{Reach.Names, Reach.is_index, Sort.SortPath}
 use Rattle.bd_query_filter.specs.Filter.{Filter, all_of, some_of, none_of, at_path, Filters, no_filters, filter, Operator}
-use Rattle.bd_query_filter.specs.Filter.{equals, compares, is_in, has_all, has_type, has_size, exists, negates, has_element}
+use Rattle.bd_query_filter.specs.Filter.{equals, differs, compares, is_in, is_not_in, has_all, has_type, has_size, exists, negates, has_element}
 use Rattle.bd_query_filter.specs.Filter.{has_document, Operators, no_operators, operator}
 use Rattle.bd_query_filter.specs.NameKind.{is_kind}
 
@@ -149,8 +149,10 @@ abbrev mutual
   -- an operator with other numbers; `$size`, `$exists` and `$type` stay
   pub renumber_operator : Codes → Operator → Operator
   renumber_operator c (equals v) = equals (renumber c v)
+  renumber_operator c (differs v) = differs (renumber c v)
   renumber_operator c (compares r v) = compares r (renumber c v)
   renumber_operator c (is_in vs) = is_in (map (renumber c) vs)
+  renumber_operator c (is_not_in vs) = is_not_in (map (renumber c) vs)
   renumber_operator c (has_all vs) = has_all (map (renumber c) vs)
   renumber_operator c (has_type ks) = has_type ks
   renumber_operator c (has_size n) = has_size n
@@ -188,8 +190,10 @@ abbrev mutual
   -- An operator depends only on what renumbering preserves.
   pub OperatorNeeds : Codes → Operator → Type 0
   OperatorNeeds c (equals v) = Unit {0}
+  OperatorNeeds c (differs v) = Unit {0}
   OperatorNeeds c (compares r v) = Unit {0}
   OperatorNeeds c (is_in vs) = Unit {0}
+  OperatorNeeds c (is_not_in vs) = Unit {0}
   OperatorNeeds c (has_all vs) = Unit {0}
   OperatorNeeds c (has_type ks) = TakeNumbersAlike ks
   OperatorNeeds c (has_size n) = Unit {0}

@@ -6,7 +6,7 @@ use Rattle.bd_value.specs.Tree.{Tree, leaf, int32, int64, doc, array, code_scope
 use Rattle.bd_value.specs.declared.node.Kind.{Kind}
 use Rattle.bd_value.specs.declared.node.Kind.TheVariants as kinds
 use Rattle.bd_query_filter.specs.Filter.{Filter, all_of, some_of, none_of, at_path, Filters, no_filters, filter, Operator}
-use Rattle.bd_query_filter.specs.Filter.{equals, compares, is_in, has_all, has_type, has_size, exists, negates, has_element}
+use Rattle.bd_query_filter.specs.Filter.{equals, differs, compares, is_in, is_not_in, has_all, has_type, has_size, exists, negates, has_element}
 use Rattle.bd_query_filter.specs.Filter.{has_document, Operators, no_operators, operator}
 use Rattle.bd_query_filter.specs.NameKind.{is_kind}
 use Rattle.bd_query_filter.specs.declared.operand.Relation.{Relation}
@@ -43,8 +43,10 @@ mutual
 
   operator_test_means : (o : Operator) → IsTrue (operator_alike o) ↔ OperatorAlike o
   operator_test_means (equals v) = (λ e. tt, λ h. refl)
+  operator_test_means (differs v) = (λ e. tt, λ h. refl)
   operator_test_means (compares r v) = (λ e. tt, λ h. refl)
   operator_test_means (is_in vs) = (λ e. tt, λ h. refl)
+  operator_test_means (is_not_in vs) = (λ e. tt, λ h. refl)
   operator_test_means (has_all vs) = (λ e. tt, λ h. refl)
   operator_test_means (has_type ks) = equal_bools (list_any (λ k. is_kind k kinds.Int32) ks) (list_any (λ k. is_kind k kinds.Int64) ks)
   operator_test_means (has_size n) = (λ e. tt, λ h. refl)
@@ -85,8 +87,10 @@ module _ (numbers : List ℤ) (special : ℤ) where
 
     operator_kept : (o : Operator) → OperatorAlike o → OperatorAlike (operator_beside_nan numbers special o)
     operator_kept (equals v) a = tt
+    operator_kept (differs v) a = tt
     operator_kept (compares r v) a = comparison_alike r v
     operator_kept (is_in vs) a = tt
+    operator_kept (is_not_in vs) a = tt
     operator_kept (has_all vs) a = tt
     operator_kept (has_type ks) a = a
     operator_kept (has_size n) a = tt
@@ -114,8 +118,10 @@ module _ (numbers : List ℤ) (special : ℤ) where
 
     operator_back : (c : Codes) (o : Operator) → OperatorAlike (renumber_operator c (operator_beside_nan numbers special o)) → OperatorAlike o
     operator_back c (equals v) a = tt
+    operator_back c (differs v) a = tt
     operator_back c (compares r v) a = tt
     operator_back c (is_in vs) a = tt
+    operator_back c (is_not_in vs) a = tt
     operator_back c (has_all vs) a = tt
     operator_back c (has_type ks) a = a
     operator_back c (has_size n) a = tt

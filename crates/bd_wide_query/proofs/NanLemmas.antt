@@ -9,7 +9,7 @@ use Rattle.std.proofs.lemmas.Int.{ints, by_lt_z}
 use Rattle.std.proofs.lemmas.Bool.Decides.{nat_tests}
 use Rattle.bd_value.specs.Tree.{Tree, leaf, int32, int64, doc, array, code_scope}
 use Rattle.bd_query_filter.specs.Filter.{Filter, all_of, some_of, none_of, at_path, Filters, no_filters, filter, Operator}
-use Rattle.bd_query_filter.specs.Filter.{equals, compares, is_in, has_all, has_type, has_size, exists, negates, has_element}
+use Rattle.bd_query_filter.specs.Filter.{equals, differs, compares, is_in, is_not_in, has_all, has_type, has_size, exists, negates, has_element}
 use Rattle.bd_query_filter.specs.Filter.{has_document, Operators, no_operators, operator}
 use Rattle.bd_query_filter.specs.FilterMatch.{relates}
 use Rattle.bd_query_filter.specs.declared.operand.Relation.{Relation}
@@ -65,8 +65,10 @@ module _ (ws : List ℤ) where
 
       operator_stays : (o : Operator) → operator_beside_nan cs (code ws N) (renumber_operator C o) ≡ renumber_operator C (operator_beside_nan ws N o)
       operator_stays (equals v) = refl
+      operator_stays (differs v) = refl
       operator_stays (compares r v) = comparison_stays r v
       operator_stays (is_in vs) = refl
+      operator_stays (is_not_in vs) = refl
       operator_stays (has_all vs) = refl
       operator_stays (has_type ks) = refl
       operator_stays (has_size n) = refl

@@ -9,7 +9,7 @@ use Rattle.bd_value.specs.declared.node.Class.TheVariants as classes
 use Rattle.bd_value.specs.declared.node.Kind.TheVariants as kinds
 use Rattle.bd_path.specs.Reach.{Names}
 use Rattle.bd_query_filter.specs.Filter.{Filter, all_of, some_of, none_of, at_path, Filters, no_filters, filter, Operator}
-use Rattle.bd_query_filter.specs.Filter.{equals, compares, is_in, has_all, has_type, has_size, exists, negates, has_element}
+use Rattle.bd_query_filter.specs.Filter.{equals, differs, compares, is_in, is_not_in, has_all, has_type, has_size, exists, negates, has_element}
 use Rattle.bd_query_filter.specs.Filter.{has_document, Operators, no_operators, operator}
 use Rattle.bd_query_filter.specs.{FilterMatch.is_array, FilterMatch.is_related, FilterMatch.relates, declared.operand.Relation.Relation}
 use Rattle.bd_index_bounds.specs.Bounds.{KeyBounds, KeySet, all_bounds, all_element_bounds, bounds, bounds_at, bounds_here, conjunction, disjunction, element_bounds}
@@ -134,8 +134,10 @@ module _ (one : Code) where
 
     element_stays : (o : Operator) → BoundsAlike (element_bounds (renumber_operator everywhere o)) (element_bounds o)
     element_stays (equals v) = equal_stays v
+    element_stays (differs v) = tt
     element_stays (compares o v) = related_stays o v
     element_stays (is_in vs) = union_stays keys_equal_to equal_stays vs
+    element_stays (is_not_in vs) = tt
     element_stays (has_all vs) = each_stays keys_equal_to equal_stays false vs
     element_stays (has_type types) = types_stay types
     element_stays (has_size n) = tt
@@ -152,8 +154,10 @@ module _ (one : Code) where
 
     here_stays : (o : Operator) (multikey : Bool) → BoundsAlike (bounds_here (renumber_operator everywhere o) multikey) (bounds_here o multikey)
     here_stays (equals v) multikey = equals_stays v
+    here_stays (differs v) multikey = tt
     here_stays (compares o v) multikey = unless_stays (is_array (r v)) (is_array v) (is_related o (r v)) (is_related o v) (array_stays v) (related_stays o v)
     here_stays (is_in vs) multikey = union_stays keys_of_equal equals_stays vs
+    here_stays (is_not_in vs) multikey = tt
     here_stays (has_all vs) multikey = each_stays keys_of_equal equals_stays multikey vs
     here_stays (has_type types) multikey =
         unless_stays (is_listed kinds.Array types) (is_listed kinds.Array types) (keys_of_types types) (keys_of_types types) refl (types_stay types)
@@ -195,8 +199,10 @@ module _ (one : Code) where
       at_stays o (Some []) multikey = here_stays o multikey
       at_stays (has_document fs) (Some (name ∷ path)) multikey = all_stay fs (name ∷ path) multikey
       at_stays (equals v) (Some (name ∷ path)) multikey = tt
+      at_stays (differs v) (Some (name ∷ path)) multikey = tt
       at_stays (compares o v) (Some (name ∷ path)) multikey = tt
       at_stays (is_in vs) (Some (name ∷ path)) multikey = tt
+      at_stays (is_not_in vs) (Some (name ∷ path)) multikey = tt
       at_stays (has_all vs) (Some (name ∷ path)) multikey = tt
       at_stays (has_type types) (Some (name ∷ path)) multikey = tt
       at_stays (has_size n) (Some (name ∷ path)) multikey = tt
