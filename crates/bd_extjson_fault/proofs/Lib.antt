@@ -1,6 +1,11 @@
 pub mod ExampleLemmas
+pub mod FaultPlaceLemmas
 pub mod FindingLemmas
 pub mod NumberLemmas
 pub mod PassingLemmas
+pub mod PlaceLemmas
+pub mod PlaceNumberLemmas
+pub mod PlaceStringLemmas
+pub mod PlaceValueLemmas
 pub mod TextFaultLemmas
 pub mod TreeFaultLemmas

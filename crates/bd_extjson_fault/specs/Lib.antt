@@ -1,3 +1,4 @@
+pub mod FaultPlace
 pub mod JsonFault
 pub mod JsonSyntax
 pub mod TextFault

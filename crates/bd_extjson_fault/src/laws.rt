@@ -5,6 +5,7 @@ ghost use Rattle.json.specs.Json.{Json, member, no_members};
 ghost use Rattle.json.specs.Word.{after_number};
 ghost use Rattle.bd_extjson_wrapper.specs.Wrapper.{single};
 ghost use Rattle.bd_extjson_wrapper.specs.declared.wrapper.Wrapper.{Wrapper};
+ghost use Rattle.bd_extjson_fault.specs.FaultPlace.{CannotContinue, StaysWithMore};
 ghost use Rattle.bd_extjson_fault.specs.JsonFault.{IsLocated, ReportsBadUtf8};
 ghost use Rattle.bd_extjson_fault.specs.JsonSyntax.{beyond_number};
 ghost use Rattle.bd_extjson_fault.specs.TextFault.{text_fault};
@@ -18,6 +19,14 @@ pub fn fault_is_located()
     ensures located { (text : List ℕ) → IsLocated (length text) (text_fault text) }
     ensures utf8 { (text : List ℕ) → ReportsBadUtf8 text (text_fault text) }
     ensures kind { (text : List ℕ) → (text_fault text).kind ≢ kinds.NoMemory }
+{}
+
+/// A text that is not JSON cannot continue at its fault. Whatever follows the text, the fault stays; and each text with the
+/// same bytes up to and with that of the fault has it too, unless an escape of a surrogate begins there.
+#[tactic(auto, using(crate::proofs::FaultPlaceLemmas::stays_with_more, crate::proofs::FaultPlaceLemmas::cannot_continue))]
+pub fn fault_is_not_early()
+    ensures more { (text : List ℕ) → StaysWithMore text }
+    ensures byte { (text : List ℕ) → CannotContinue text }
 {}
 
 /// A number is skipped here exactly if the grammar of JSON skips one, and the rest is the same.

@@ -1,0 +1,85 @@
+-- Where a text stops to be JSON.
+use Rattle.std.proofs.Common.{◌≡◌, ◌-◌, ◌+◌, ◌∙◌, ◌++◌, ◌⊎◌, sym, refl, inl, inr, ℕ, suc, true, false, List, [], ◌∷◌, length, take, drop, ap, Ok, Err, IsUtf8, append_assoc, length-append, take-append-drop, arith}
+use Rattle.std.proofs.Math.Seq.{take-append-add, drop-append_seam}
+use Rattle.bd_extjson_fault.specs.declared.json_fault.JsonFault.{JsonFault}
+use Rattle.bd_extjson_fault.specs.declared.skip.Stop.{Stop}
+use Rattle.bd_extjson_fault.specs.declared.skip.StopKind.{StopKind}
+use Rattle.bd_extjson_fault.specs.FaultPlace.{StopsInside, StaysWithMore, CannotContinue, begins_surrogate}
+use Rattle.bd_extjson_fault.specs.JsonSyntax.{Beyond, beyond_text}
+use Rattle.bd_extjson_fault.specs.TextFault.{text_fault, kind_of_stop}
+use Rattle.bd_extjson_fault.proofs.PlaceLemmas.{Gives, Decided, Settled, stop_at}
+use Rattle.bd_extjson_fault.proofs.PlaceValueLemmas.{text_errs, text_ok}
+use Rattle.bd_extjson_fault.proofs.TextFaultLemmas.{of_no_json}
+
+abbrev fault_of : StopKind → ℕ → JsonFault
+fault_of kind at = record { kind = kind_of_stop kind; at = at }
+
+-- the fault is at the first byte of the rest of the text
+placed : (text before rest : List ℕ) (kind : StopKind) → IsUtf8 text → text ≡ before ++ rest → beyond_text text ≡ Err (stop_at kind rest)
+    → text_fault text ≡ fault_of kind (length before)
+placed text before rest kind utf8 split e =
+    let size : length text ≡ length (before ++ rest) = ap length split in
+    let at : length text - length rest ≡ length before = omega (arith, size, length-append before rest) in
+    of_no_json text (stop_at kind rest) utf8 e ∙ ap (fault_of kind) at
+
+abbrev HasStop : List ℕ → Type 0
+HasStop text = (stop : Stop) × (beyond_text text ≡ Err stop) × Settled (Gives beyond_text) text stop
+
+stop_of : (text : List ℕ) → StopsInside text → HasStop text
+stop_of text inside = go (beyond_text text) refl
+  where
+    settled : (stop : Stop) → beyond_text text ≡ Err stop → Decided (Gives beyond_text) text stop → Settled (Gives beyond_text) text stop
+    settled stop is (inl end) =
+        let at : (text_fault text).at ≡ length text - stop.remaining = ap (λ f. f.at) (of_no_json text stop inside.0 is) in
+        absurd (omega (arith, at, end, inside.2))
+    settled stop is (inr d) = d
+
+    go : (answer : Beyond) → beyond_text text ≡ answer → HasStop text
+    go (Ok rest) is = absurd (inside.1 (inside.0, is ∙ ap Ok (text_ok text rest is)))
+    go (Err stop) is = (stop, is, settled stop is (text_errs text stop is))
+
+pub stays_with_more : (text : List ℕ) → StaysWithMore text
+stays_with_more text inside more utf8 =
+    let s = stop_of text inside in
+    let d = s.2 in
+    let split : text ++ more ≡ d.before ++ (d.first ∷ (d.more ++ (d.rest ++ more))) =
+    ap (λ x. x ++ more) d.split ∙ append_assoc d.before (d.first ∷ (d.more ++ d.rest)) more ∙ ap (λ x. d.before ++ (d.first ∷ x)) (append_assoc d.more d.rest more) in
+    placed (text ++ more) d.before (d.first ∷ (d.more ++ (d.rest ++ more))) d.kind utf8 split (ap beyond_text split ∙ d.stays (d.rest ++ more))
+    ∙ sym (placed text d.before (d.first ∷ (d.more ++ d.rest)) d.kind inside.0 d.split (s.1 ∙ ap Err d.reported))
+
+-- a text with the same bytes up to and with the first one of the rest
+same_bytes : (text other before rest : List ℕ) (first : ℕ) → text ≡ before ++ (first ∷ rest) → take (suc (length before)) other ≡ take (suc (length before)) text
+    → other ≡ before ++ (first ∷ drop (suc (length before)) other)
+same_bytes text other before rest first split same =
+    let next : suc (length before) ≡ length before + 1 = omega arith in
+    let front : take (suc (length before)) other ≡ before ++ (first ∷ []) =
+    same ∙ ap (λ x. take (suc (length before)) x) split ∙ ap (λ n. take n (before ++ (first ∷ rest))) next ∙ take-append-add before (first ∷ rest) 1 in
+    sym (take-append-drop (suc (length before)) other) ∙ ap (λ x. x ++ drop (suc (length before)) other) front
+    ∙ append_assoc before (first ∷ []) (drop (suc (length before)) other)
+
+pub cannot_continue : (text : List ℕ) → CannotContinue text
+cannot_continue text inside plain other utf8 same = go d.short
+  where
+    s : HasStop text
+    s = stop_of text inside
+
+    d : Settled (Gives beyond_text) text s.0
+    d = s.2
+
+    place : text_fault text ≡ fault_of d.kind (length d.before)
+    place = placed text d.before (d.first ∷ (d.more ++ d.rest)) d.kind inside.0 d.split (s.1 ∙ ap Err d.reported)
+
+    at : (text_fault text).at ≡ length d.before
+    at = ap (λ f. f.at) place
+
+    go : (d.more ≡ []) ⊎ (begins_surrogate (d.first ∷ (d.more ++ d.rest)) ≡ true) → text_fault other ≡ text_fault text
+    go (inl none) =
+        let tail = drop (suc (length d.before)) other in
+        let split : other ≡ d.before ++ (d.first ∷ tail) = same_bytes text other d.before (d.more ++ d.rest) d.first d.split (rw at at same) in
+        let stays : beyond_text (d.before ++ (d.first ∷ ([] ++ tail))) ≡ Err (stop_at d.kind (d.first ∷ ([] ++ tail))) = rw none at (d.stays tail) in
+        placed other d.before (d.first ∷ tail) d.kind utf8 split (ap beyond_text split ∙ stays) ∙ sym place
+    go (inr surrogate) =
+        let from : drop (text_fault text).at text ≡ d.first ∷ (d.more ++ d.rest) =
+        ap (λ n. drop n text) at ∙ ap (λ x. drop (length d.before) x) d.split ∙ drop-append_seam d.before (d.first ∷ (d.more ++ d.rest)) in
+        let not : begins_surrogate (d.first ∷ (d.more ++ d.rest)) ≡ false = ap begins_surrogate (sym from) ∙ plain in
+        absurd cc

@@ -1,0 +1,35 @@
+-- Where a text stops to be JSON: at the fault it cannot continue, and until there it could.
+use Rattle.std.specs.Prelude.{◌≡◌, ◌<◌, ◌||◌, ◌++◌, ℕ, suc, List, [], length, take, drop, Bool, false, Result, Ok, Err}
+use Rattle.std.specs.{Str.IsUtf8}
+use Rattle.json.specs.Text.{is_high_surrogate, is_low_surrogate}
+use Rattle.bd_extjson_fault.specs.JsonSyntax.{beyond_text, beyond_unit}
+use Rattle.bd_extjson_fault.specs.TextFault.{text_fault}
+use Rattle.bd_extjson_fault.specs.declared.skip.Stop.{Stop}
+
+-- JSON (RFC 8259): UTF-8 that is one value, with at most 203 levels of brackets and no lone surrogate
+abbrev pub IsJson : List ℕ → Type 0
+IsJson text = IsUtf8 text × (beyond_text text ≡ Ok [])
+
+-- the escape is one of a surrogate
+abbrev pub is_surrogate : Result (ℕ × List ℕ) Stop → Bool
+is_surrogate (Ok unit) = is_high_surrogate unit.0 || is_low_surrogate unit.0
+is_surrogate (Err stop) = false
+
+-- an escape of a surrogate begins here
+abbrev pub begins_surrogate : List ℕ → Bool
+begins_surrogate text = is_surrogate (beyond_unit text)
+
+-- UTF-8 that is not JSON, with its fault before its end
+abbrev pub StopsInside : List ℕ → Type 0
+StopsInside text = IsUtf8 text × ¬ (IsJson text) × ((text_fault text).at < length text)
+
+-- Whatever follows the text, the fault stays: its kind and its byte.
+abbrev pub StaysWithMore : List ℕ → Type 0
+StaysWithMore text = StopsInside text → (more : List ℕ) → IsUtf8 (text ++ more) → text_fault (text ++ more) ≡ text_fault text
+
+-- Each text with the same bytes up to and with that of the fault has that fault, so no text with them is JSON. This is
+-- not so of a lone surrogate: its fault is at its backslash, where another escape could begin.
+abbrev pub CannotContinue : List ℕ → Type 0
+CannotContinue text = StopsInside text → begins_surrogate (drop (text_fault text).at text) ≡ false
+    → (other : List ℕ) → IsUtf8 other → take (suc (text_fault text).at) other ≡ take (suc (text_fault text).at) text
+    → text_fault other ≡ text_fault text
