@@ -1,6 +1,9 @@
 pub mod ExampleLemmas
 pub mod FaultPlaceLemmas
 pub mod FindingLemmas
+pub mod GoOnLemmas
+pub mod GoOnStringLemmas
+pub mod GoOnValueLemmas
 pub mod NumberLemmas
 pub mod PassingLemmas
 pub mod PlaceLemmas

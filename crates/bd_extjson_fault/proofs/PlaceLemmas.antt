@@ -29,7 +29,7 @@ same_taken [] x y e = e
 same_taken (b ∷ taken) x y e = refl
 
 -- a byte that can follow each value: a closing bracket, or none
-abbrev ends : List ℕ → Bool
+abbrev pub ends : List ℕ → Bool
 ends [] = true
 ends (b ∷ text) = b == 93 || b == 125
 
@@ -202,7 +202,7 @@ pub record Run (is : ℕ → Bool) (text : List ℕ) : Type 0 where
   pub split : text ≡ taken ++ beyond_all is text
   pub passes : (other : List ℕ) → begins is other ≡ false → beyond_all is (taken ++ other) ≡ other
 
-no_more : (is : ℕ → Bool) (text : List ℕ) → begins is text ≡ false → beyond_all is text ≡ text
+pub no_more : (is : ℕ → Bool) (text : List ℕ) → begins is text ≡ false → beyond_all is text ≡ text
 unfolding beyond_all
 no_more is [] e = refl
 no_more is (b ∷ text) e = rw e refl

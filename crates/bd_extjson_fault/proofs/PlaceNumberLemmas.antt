@@ -117,11 +117,11 @@ fraction_errs : Errs beyond_fraction
 unfolding beyond_fraction
 fraction_errs = optional_errs (λ b. b == 46) beyond_digits digits_errs
 
-fraction_oks : Oks beyond_fraction
+pub fraction_oks : Oks beyond_fraction
 unfolding beyond_fraction
 fraction_oks = optional_oks (λ b. b == 46) beyond_digits refl refl digits_oks
 
-abbrev after_sign : List ℕ → Beyond
+abbrev pub after_sign : List ℕ → Beyond
 after_sign text = beyond_digits (beyond_if (λ b. b == 43 || b == 45) text)
 
 exponent_errs : Errs beyond_exponent
@@ -132,13 +132,13 @@ exponent_oks : Oks beyond_exponent
 unfolding beyond_exponent
 exponent_oks = optional_oks (λ b. b == 101 || b == 69) after_sign refl refl (if_oks (λ b. b == 43 || b == 45) beyond_digits refl refl digits_oks)
 
-abbrev whole_part : List ℕ → Beyond
+abbrev pub whole_part : List ℕ → Beyond
 whole_part text = beyond_natural (beyond_if (λ b. b == 45) text)
 
 whole_errs : Errs whole_part
 whole_errs = if_errs (λ b. b == 45) beyond_natural natural_errs
 
-whole_oks : Oks whole_part
+pub whole_oks : Oks whole_part
 whole_oks = if_oks (λ b. b == 45) beyond_natural refl refl natural_oks
 
 pub number_errs : Errs beyond_number

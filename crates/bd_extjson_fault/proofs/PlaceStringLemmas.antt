@@ -22,19 +22,19 @@ hex_errs k next (b ∷ text) stop e = go (is_digit b 16) refl e
         (λ other s same h. rw is h) (next (digit_value b) text stop (rw is at e))
     go false is e = here (Gives (λ x. beyond_hex x >>= k)) Syntax b text stop (rw is at e) (λ other. rw is refl)
 
-abbrev Unit4 : Type 0
+abbrev pub Unit4 : Type 0
 Unit4 = ℕ × List ℕ
 
-abbrev fourth : ℕ → ℕ → ℕ → Unit4 → Result Unit4 Stop
+abbrev pub fourth : ℕ → ℕ → ℕ → Unit4 → Result Unit4 Stop
 fourth a b c d = Ok (a * 4096 + b * 256 + c * 16 + d.0, d.1)
 
-abbrev third : ℕ → ℕ → Unit4 → Result Unit4 Stop
+abbrev pub third : ℕ → ℕ → Unit4 → Result Unit4 Stop
 third a b c = beyond_hex c.1 >>= fourth a b c.0
 
-abbrev second : ℕ → Unit4 → Result Unit4 Stop
+abbrev pub second : ℕ → Unit4 → Result Unit4 Stop
 second a b = beyond_hex b.1 >>= third a b.0
 
-abbrev first : Unit4 → Result Unit4 Stop
+abbrev pub first : Unit4 → Result Unit4 Stop
 first a = beyond_hex a.1 >>= second a.0
 
 no_err : (a b c d : ℕ) → Errs (λ x. fourth a b c (d, x))
@@ -47,12 +47,12 @@ unit_errs : Errs beyond_unit
 unfolding beyond_unit
 unit_errs = then_errs (beyond_word (codes "\\u")) (λ x. beyond_hex x >>= first) (word_errs (codes "\\u")) (loose (beyond_word (codes "\\u")) (word_firm (codes "\\u"))) four_errs
 
-record HexOf (text : List ℕ) (u : Unit4) : Type 0 where
-  byte : ℕ
-  split : text ≡ byte ∷ u.1
-  passes : (other : List ℕ) → beyond_hex (byte ∷ other) ≡ Ok (u.0, other)
+pub record HexOf (text : List ℕ) (u : Unit4) : Type 0 where
+  pub byte : ℕ
+  pub split : text ≡ byte ∷ u.1
+  pub passes : (other : List ℕ) → beyond_hex (byte ∷ other) ≡ Ok (u.0, other)
 
-hex_of : (text : List ℕ) (u : Unit4) → beyond_hex text ≡ Ok u → HexOf text u
+pub hex_of : (text : List ℕ) (u : Unit4) → beyond_hex text ≡ Ok u → HexOf text u
 unfolding beyond_hex
 hex_of [] u e = absurd cc
 hex_of (b ∷ text) u e = go (is_digit b 16) refl e
@@ -151,7 +151,7 @@ pair_err x u stop is high (Err s) second e = go (s.remaining == 0) refl e (unit_
         (d.split ∙ sym (append_assoc d.before (d.first ∷ d.more) d.rest)) (rw high refl) (rw end at e)
         (λ other. rw (append_assoc d.before (d.first ∷ d.more) other, p.passes (d.before ++ (d.first ∷ (d.more ++ other))), high, d.stays other, some_length d.first (d.more ++ other)) refl)
 
-abbrev Answered : List ℕ → ℕ × List ℕ → Beyond
+abbrev pub Answered : List ℕ → ℕ × List ℕ → Beyond
 Answered from u = if is_high_surrogate u.0 then beyond_low from (beyond_unit u.1) else (if is_low_surrogate u.0 then syntax_at from else Ok u.1)
 
 answered_err : (x : List ℕ) (u : ℕ × List ℕ) (stop : Stop) → beyond_unit (92 ∷ 117 ∷ x) ≡ Ok u → (b : Bool) → is_high_surrogate u.0 ≡ b
@@ -183,7 +183,7 @@ units_err x stop e = go (beyond_unit (92 ∷ 117 ∷ x)) refl e
 
 -- ---- characters
 
-same_number : (b c : ℕ) → (b == c) ≡ true → b ≡ c
+pub same_number : (b c : ℕ) → (b == c) ≡ true → b ≡ c
 same_number b c is = grind (arith, nat_tests, is)
 
 escape_err : (b c : ℕ) (text : List ℕ) (stop : Stop) → (b == 92) ≡ true → (x : Bool) → (c == 117) ≡ x → (y : Bool) → is_short_escape c ≡ y
@@ -279,7 +279,7 @@ character_piece_by b text rest false is false low e =
     let same : text ≡ rest = cc in
     record { first = b; more = []; split = ap (λ t. b ∷ t) same; passes = λ other. rw (is, low) refl }
 
-character_piece : Pieces beyond_character
+pub character_piece : Pieces beyond_character
 unfolding beyond_character
 character_piece [] rest e = absurd cc
 character_piece (b ∷ text) rest e = character_piece_by b text rest (b == 92) refl (nat_lt b 32) refl e
@@ -297,7 +297,7 @@ items_stop closes item [] stop zero none free le e = sym none ∙ e
 items_stop closes item (b ∷ text) stop zero none free le e = absurd (omega (arith, le))
 items_stop closes item text stop (suc n) none free le e = rw (free, e) refl
 
-items_on : (closes : ℕ → Bool) (item : List ℕ → Beyond) (first : ℕ) (more other : List ℕ) (answer : Beyond) (n : ℕ) → closes first ≡ false
+pub items_on : (closes : ℕ → Bool) (item : List ℕ → Beyond) (first : ℕ) (more other : List ℕ) (answer : Beyond) (n : ℕ) → closes first ≡ false
     → item (first ∷ (more ++ other)) ≡ Ok other → length (first ∷ (more ++ other)) ≤ n → Items closes item other answer
     → beyond_items closes item n (first ∷ (more ++ other)) ≡ answer
 unfolding beyond_items
@@ -336,7 +336,7 @@ items_err closes item zero (b ∷ text) stop none fails passes le e = absurd (om
 items_err closes item (suc n) text stop none fails passes le e = items_err_by closes item n text stop (begins closes text) none fails passes le refl e
     (λ mid le e. items_err closes item n mid stop none fails passes le e)
 
-items_close : (closes : ℕ → Bool) (item : List ℕ → Beyond) (b : ℕ) (text : List ℕ) (n : ℕ) → closes b ≡ true → length (b ∷ text) ≤ n
+pub items_close : (closes : ℕ → Bool) (item : List ℕ → Beyond) (b : ℕ) (text : List ℕ) (n : ℕ) → closes b ≡ true → length (b ∷ text) ≤ n
     → beyond_items closes item n (b ∷ text) ≡ Ok text
 unfolding beyond_items
 items_close closes item b text zero is le = absurd (omega (arith, le))
@@ -379,7 +379,7 @@ items_ok closes item (suc n) text rest passes e = items_ok_by closes item n text
 
 -- ---- strings and names
 
-abbrev is_quote : ℕ → Bool
+abbrev pub is_quote : ℕ → Bool
 is_quote b = b == 34
 
 no_character : beyond_character [] ≡ syntax_at []
@@ -397,19 +397,19 @@ string_firm text rest e =
     let p = items_ok is_quote beyond_character (length text) text rest character_piece e in
     record { taken = p.taken; split = p.split; passes = λ other always. p.passes other tt (length (p.taken ++ other)) (le_refl (length (p.taken ++ other))) }
 
-abbrev quoted : List ℕ → Beyond
+abbrev pub quoted : List ℕ → Beyond
 quoted text = beyond_word (codes "\"") text >>= beyond_string
 
-abbrev colon : List ℕ → Beyond
+abbrev pub colon : List ℕ → Beyond
 colon text = beyond_word (codes ":") (beyond_white text)
 
-abbrev named : List ℕ → Beyond
+abbrev pub named : List ℕ → Beyond
 named text = quoted text >>= colon
 
 quoted_errs : Errs quoted
 quoted_errs = then_errs (beyond_word (codes "\"")) beyond_string (word_errs (codes "\"")) (loose (beyond_word (codes "\"")) (word_firm (codes "\""))) string_errs
 
-quoted_piece : Pieces quoted
+pub quoted_piece : Pieces quoted
 quoted_piece = then_piece (beyond_word (codes "\"")) beyond_string (word_piece 34 []) string_firm
 
 colon_errs : Errs colon

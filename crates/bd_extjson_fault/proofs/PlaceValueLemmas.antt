@@ -12,13 +12,13 @@ use Rattle.bd_extjson_fault.proofs.PlaceStringLemmas.{string_errs, string_firm, 
 
 -- ---- after a part
 
-abbrev Next : Type 0
+abbrev pub Next : Type 0
 Next = Bool × List ℕ
 
-abbrev comma : List ℕ → Result Next Stop
+abbrev pub comma : List ℕ → Result Next Stop
 comma text = beyond_word (codes ",") text >>= λ rest. Ok (true, rest)
 
-abbrev after_part : (ℕ → Bool) → List ℕ → Result Next Stop
+abbrev pub after_part : (ℕ → Bool) → List ℕ → Result Next Stop
 after_part closes text = if begins closes text then Ok (false, drop 1 text) else comma text
 
 no_err : Errs {A = Next} (λ rest. Ok (true, rest))
@@ -73,7 +73,7 @@ begun_past (b ∷ taken) first more x y = refl
 some_past : (taken : List ℕ) (first : ℕ) (more : List ℕ) → 0 < length (taken ++ (first ∷ more))
 some_past taken first more = omega (arith, length-append taken (first ∷ more))
 
-next_of : (closes : ℕ → Bool) (text : List ℕ) (next : Next) → beyond_next closes text ≡ Ok next → NextOf closes text next
+pub next_of : (closes : ℕ → Bool) (text : List ℕ) (next : Next) → beyond_next closes text ≡ Ok next → NextOf closes text next
 unfolding beyond_next
 next_of closes text next e =
     let r = run_of is_white text in
@@ -99,7 +99,7 @@ pub record Reads (part : List ℕ → Beyond) : Type 0 where
   pub oks : (text rest : List ℕ) → part text ≡ Ok rest → Passed (Gives part) (λ x. x) (Fits rest) text rest
   pub white : (text : List ℕ) → part (beyond_white text) ≡ part text
 
-abbrev parts_after : (ℕ → Bool) → (List ℕ → Beyond) → ℕ → Next → Beyond
+abbrev pub parts_after : (ℕ → Bool) → (List ℕ → Beyond) → ℕ → Next → Beyond
 parts_after closes part n next = if next.0 then beyond_parts closes part n next.1 else Ok next.1
 
 parts_stop : (closes : ℕ → Bool) (part : List ℕ → Beyond) (text : List ℕ) (stop : Stop) (n : ℕ) → length text < n → part text ≡ Err stop
@@ -114,20 +114,20 @@ unfolding beyond_parts
 parts_halt closes part text mid stop zero lt e h = absurd (omega (arith, lt))
 parts_halt closes part text mid stop (suc n) lt e h = rw (e, h) refl
 
-parts_on : (closes : ℕ → Bool) (part : List ℕ → Beyond) (text mid other : List ℕ) (next : Bool) (answer : Beyond) (n : ℕ) → length text < n
+pub parts_on : (closes : ℕ → Bool) (part : List ℕ → Beyond) (text mid other : List ℕ) (next : Bool) (answer : Beyond) (n : ℕ) → length text < n
     → length other < length text → part text ≡ Ok mid → beyond_next closes mid ≡ Ok (next, other) → next ≡ true → Parts closes part other answer
     → beyond_parts closes part n text ≡ answer
 unfolding beyond_parts
 parts_on closes part text mid other next answer zero lt less e h is more = absurd (omega (arith, lt))
 parts_on closes part text mid other next answer (suc n) lt less e h is more = rw (e, h, is) (more n (omega (arith, lt, less)))
 
-parts_end : (closes : ℕ → Bool) (part : List ℕ → Beyond) (text mid other : List ℕ) (next : Bool) (n : ℕ) → length text < n
+pub parts_end : (closes : ℕ → Bool) (part : List ℕ → Beyond) (text mid other : List ℕ) (next : Bool) (n : ℕ) → length text < n
     → part text ≡ Ok mid → beyond_next closes mid ≡ Ok (next, other) → next ≡ false → beyond_parts closes part n text ≡ Ok other
 unfolding beyond_parts
 parts_end closes part text mid other next zero lt e h is = absurd (omega (arith, lt))
 parts_end closes part text mid other next (suc n) lt e h is = rw (e, h, is) refl
 
-shorter : (first second rest : List ℕ) → 0 < length second → length rest < length (first ++ (second ++ rest))
+pub shorter : (first second rest : List ℕ) → 0 < length second → length rest < length (first ++ (second ++ rest))
 shorter first second rest some = omega (arith, some, length-append first (second ++ rest), length-append second rest)
 
 parts_next_err : (closes : ℕ → Bool) (part : List ℕ → Beyond) (n : ℕ) (text mid : List ℕ) (stop : Stop) (answer : Result Next Stop) → Reads part
@@ -224,7 +224,7 @@ parts_ok closes part (suc n) text rest reads e =
     let mid = bind_ok (part text) (beyond_next closes) next.0 next.1 in
     parts_ok_by closes part n text mid.0 rest next.0 reads mid.1 mid.2 (next.0).0 refl next.2 (λ more e. parts_ok closes part n more rest reads e)
 
-parts_white : (closes : ℕ → Bool) (part : List ℕ → Beyond) (n : ℕ) (text : List ℕ) → Reads part
+pub parts_white : (closes : ℕ → Bool) (part : List ℕ → Beyond) (n : ℕ) (text : List ℕ) → Reads part
     → beyond_parts closes part (suc n) (beyond_white text) ≡ beyond_parts closes part (suc n) text
 unfolding beyond_parts
 parts_white closes part n text reads = rw (reads.white text) refl
@@ -232,7 +232,7 @@ parts_white closes part n text reads = rw (reads.white text) refl
 -- ---- brackets
 
 -- parts after white space, as a group without a closing byte
-group_parts : (closes : ℕ → Bool) (part : List ℕ → Beyond) (text other : List ℕ) (answer : Beyond) → Reads part → beyond_white text ≡ other
+pub group_parts : (closes : ℕ → Bool) (part : List ℕ → Beyond) (text other : List ℕ) (answer : Beyond) → Reads part → beyond_white text ≡ other
     → begins closes other ≡ false → length other ≤ length text → Parts closes part other answer → beyond_group closes part text ≡ answer
 unfolding beyond_group
 group_parts closes part text other answer reads is free le h =
@@ -296,7 +296,7 @@ name_white : (text : List ℕ) → beyond_name (beyond_white text) ≡ beyond_na
 unfolding beyond_name
 name_white text = rw (white_twice text) refl
 
-member_reads : (value : List ℕ → Beyond) → Reads value → Reads (beyond_member value)
+pub member_reads : (value : List ℕ → Beyond) → Reads value → Reads (beyond_member value)
 member_reads value reads = record {
   errs = then_errs beyond_name value name_errs (loose beyond_name name_firm) reads.errs;
   oks = then_oks beyond_name value (loose beyond_name name_firm) reads.oks;
@@ -322,10 +322,10 @@ past_firm item b inner firm is text rest e =
     record { taken = b ∷ p.taken; split = ap (λ x. b ∷ x) p.split; passes = λ other fits. is (p.taken ++ other) ∙ p.passes other tt }
 
 -- the five forms of a value without brackets, by the first byte
-abbrev is_letter : ℕ → Bool
+abbrev pub is_letter : ℕ → Bool
 is_letter b = b == 34 || b == 116 || b == 102 || b == 110
 
-scalar_number : (text : List ℕ) → begins is_letter text ≡ false → beyond_scalar text ≡ beyond_number text
+pub scalar_number : (text : List ℕ) → begins is_letter text ≡ false → beyond_scalar text ≡ beyond_number text
 unfolding beyond_scalar beyond_number beyond_natural beyond_digits
 scalar_number [] none = refl
 scalar_number (b ∷ text) none = go (b == 34) refl (b == 116) refl (b == 102) refl (b == 110) refl none
@@ -390,7 +390,7 @@ scalar_oks (b ∷ text) rest e = go (form_of b)
 
 -- ---- nesting
 
-abbrev is_bracket : ℕ → Bool
+abbrev pub is_bracket : ℕ → Bool
 is_bracket b = b == 123 || b == 91
 
 -- the same reader for each text that does not begin with a bracket
@@ -410,10 +410,10 @@ flat_oks item is text rest none e =
           ∙ p.passes other fits;
     }
 
-unnested_deep : (b : ℕ) (text : List ℕ) → is_bracket b ≡ true → beyond_unnested (b ∷ text) ≡ Err (stop_at TooDeep (b ∷ text))
+pub unnested_deep : (b : ℕ) (text : List ℕ) → is_bracket b ≡ true → beyond_unnested (b ∷ text) ≡ Err (stop_at TooDeep (b ∷ text))
 unnested_deep b text is = rw is refl
 
-unnested_flat : (text : List ℕ) → begins is_bracket text ≡ false → beyond_unnested text ≡ beyond_scalar text
+pub unnested_flat : (text : List ℕ) → begins is_bracket text ≡ false → beyond_unnested text ≡ beyond_scalar text
 unnested_flat [] none = refl
 unnested_flat (b ∷ text) none = rw none refl
 
@@ -433,7 +433,7 @@ unnested_oks text rest e = go text (begins is_bracket text) refl e
     go (b ∷ t) true is e = let f : ◌≡◌ {A = Beyond} (Err (stop_at TooDeep (b ∷ t))) (Ok rest) = sym (unnested_deep b t is) ∙ e in absurd cc
     go t false is e = flat_oks beyond_unnested unnested_flat t rest is e
 
-nested_flat : (value : List ℕ → Beyond) (text : List ℕ) → begins is_bracket text ≡ false → beyond_nested value text ≡ beyond_scalar text
+pub nested_flat : (value : List ℕ → Beyond) (text : List ℕ) → begins is_bracket text ≡ false → beyond_nested value text ≡ beyond_scalar text
 nested_flat value [] none = refl
 nested_flat value (b ∷ text) none = go (b == 123) refl (b == 91) refl none
   where
@@ -454,7 +454,7 @@ array_errs value reads = group_errs (λ b. b == 93) value reads
 array_firm : (value : List ℕ → Beyond) → Reads value → Firms (beyond_array value)
 array_firm value reads = group_firm (λ b. b == 93) value reads
 
-either_bracket : (o a : Bool) → o ≡ false → a ≡ false → o || a ≡ false
+pub either_bracket : (o a : Bool) → o ≡ false → a ≡ false → o || a ≡ false
 either_bracket o a p q = rw (p, q) refl
 
 nested_errs : (value : List ℕ → Beyond) → Reads value → Errs (beyond_nested value)
@@ -492,7 +492,7 @@ value_reads (suc level) =
 
 -- ---- the whole text
 
-abbrev last : List ℕ → Beyond
+abbrev pub last : List ℕ → Beyond
 last text = if length text == 0 then Ok [] else Err (stop_at TrailingText text)
 
 some_length : (b : ℕ) (text : List ℕ) → (length (b ∷ text) == 0) ≡ false

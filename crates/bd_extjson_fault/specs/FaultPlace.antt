@@ -1,8 +1,8 @@
 -- Where a text stops to be JSON: at the fault it cannot continue, and until there it could.
-use Rattle.std.specs.Prelude.{◌≡◌, ◌<◌, ◌||◌, ◌++◌, ℕ, suc, List, [], length, take, drop, Bool, false, Result, Ok, Err}
-use Rattle.std.specs.{Str.IsUtf8}
+use Rattle.std.specs.Prelude.{◌≡◌, ◌<◌, ◌==◌, ◌||◌, ◌&&◌, ◌⊎◌, ◌++◌, ℕ, suc, List, [], length, take, drop, Bool, true, false, Result, Ok, Err, nat_le, nat_lt}
+use Rattle.std.specs.{Char.digit_value, Str.IsUtf8}
 use Rattle.json.specs.Text.{is_high_surrogate, is_low_surrogate}
-use Rattle.bd_extjson_fault.specs.JsonSyntax.{beyond_text, beyond_unit}
+use Rattle.bd_extjson_fault.specs.JsonSyntax.{begins, beyond_text, beyond_unit}
 use Rattle.bd_extjson_fault.specs.TextFault.{text_fault}
 use Rattle.bd_extjson_fault.specs.declared.skip.Stop.{Stop}
 
@@ -19,6 +19,15 @@ is_surrogate (Err stop) = false
 abbrev pub begins_surrogate : List ℕ → Bool
 begins_surrogate text = is_surrogate (beyond_unit text)
 
+-- An escape of a surrogate begins here: `\ud8` to `\udf`, with hexadecimal digits of either case.
+abbrev pub begins_as_surrogate : List ℕ → Bool
+begins_as_surrogate text = begins (λ b. b == 92) text && begins (λ b. b == 117) (drop 1 text) && begins (λ b. digit_value b == 13) (drop 2 text)
+    && begins (λ b. nat_le 8 (digit_value b) && nat_lt (digit_value b) 16) (drop 3 text)
+
+-- the bytes end within an escape of a surrogate, or within the two of a pair, which have 12 bytes
+abbrev pub CutsSurrogate : List ℕ → Type 0
+CutsSurrogate bytes = (front : List ℕ) × (escape : List ℕ) × (bytes ≡ front ++ escape) × (length escape < 12) × (begins_as_surrogate escape ≡ true)
+
 -- UTF-8 that is not JSON, with its fault before its end
 abbrev pub StopsInside : List ℕ → Type 0
 StopsInside text = IsUtf8 text × ¬ (IsJson text) × ((text_fault text).at < length text)
@@ -33,3 +42,13 @@ abbrev pub CannotContinue : List ℕ → Type 0
 CannotContinue text = StopsInside text → begins_surrogate (drop (text_fault text).at text) ≡ false
     → (other : List ℕ) → IsUtf8 other → take (suc (text_fault text).at) other ≡ take (suc (text_fault text).at) text
     → text_fault other ≡ text_fault text
+
+-- the bytes begin some text that is JSON
+abbrev pub BeginsJson : List ℕ → Type 0
+BeginsJson bytes = (rest : List ℕ) × IsJson (bytes ++ rest)
+
+-- Until its fault a text could continue: the bytes before it begin some text that is JSON. Only those that end within an
+-- escape of a surrogate may be past saving, since its fault is told at an earlier byte once the escape is whole.
+abbrev pub CouldUntilThere : List ℕ → Type 0
+CouldUntilThere text = IsUtf8 text → ¬ (IsJson text) → IsUtf8 (take (text_fault text).at text)
+    → CutsSurrogate (take (text_fault text).at text) ⊎ BeginsJson (take (text_fault text).at text)

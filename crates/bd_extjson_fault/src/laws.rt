@@ -5,7 +5,7 @@ ghost use Rattle.json.specs.Json.{Json, member, no_members};
 ghost use Rattle.json.specs.Word.{after_number};
 ghost use Rattle.bd_extjson_wrapper.specs.Wrapper.{single};
 ghost use Rattle.bd_extjson_wrapper.specs.declared.wrapper.Wrapper.{Wrapper};
-ghost use Rattle.bd_extjson_fault.specs.FaultPlace.{CannotContinue, StaysWithMore};
+ghost use Rattle.bd_extjson_fault.specs.FaultPlace.{CannotContinue, CouldUntilThere, StaysWithMore};
 ghost use Rattle.bd_extjson_fault.specs.JsonFault.{IsLocated, ReportsBadUtf8};
 ghost use Rattle.bd_extjson_fault.specs.JsonSyntax.{beyond_number};
 ghost use Rattle.bd_extjson_fault.specs.TextFault.{text_fault};
@@ -27,6 +27,13 @@ pub fn fault_is_located()
 pub fn fault_is_not_early()
     ensures more { (text : List ℕ) → StaysWithMore text }
     ensures byte { (text : List ℕ) → CannotContinue text }
+{}
+
+/// Until its fault a text that is not JSON could continue: the bytes before it begin some text that is JSON, unless they end
+/// within an escape of a surrogate.
+#[tactic(auto, using(crate::proofs::FaultPlaceLemmas::could_until_there))]
+pub fn fault_is_not_late()
+    ensures { (text : List ℕ) → CouldUntilThere text }
 {}
 
 /// A number is skipped here exactly if the grammar of JSON skips one, and the rest is the same.

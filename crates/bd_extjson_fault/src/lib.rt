@@ -25,6 +25,7 @@ mod tree_fault;
 
 pub use json_fault::{JsonFault, JsonFaultKind};
 pub use laws::{
-    fault_is_located, fault_is_not_early, passes_numbers_of_json, wrapper_is_value_or_fault,
+    fault_is_located, fault_is_not_early, fault_is_not_late, passes_numbers_of_json,
+    wrapper_is_value_or_fault,
 };
 pub use second_pass::{diagnose, text_of};
