@@ -8,17 +8,21 @@ The answers come from examples/people.jsonl by Python: see tests/model/answers.p
 - Of some requests the pages of each size from 1 to 7, and all that the program tells of them.
 - The digests of their tokens, by sha256sum.
 - The tokens of tests/program/tokens.txt, with what follows them. `tests/program/pages.py --write` makes this file.
+- Those of `bsonwide` for queries with doubles, whose digest is that of a copy of the dump with the rank of each number in its place.
 """
 
 import base64
+import struct
 import subprocess
 import sys
+from bisect import bisect_left
+from collections.abc import Iterator
 from concurrent.futures import ThreadPoolExecutor
 from pathlib import Path
 
 sys.path.insert(0, str(Path(__file__).resolve().parents[1]))
 
-from model.answers import Dump, Token
+from model.answers import Dump, Request, Token, Value, obj, rank
 from model.sessions import Find
 from model.texts import read_document
 from support import PROGRAM, ROOT, Tests
@@ -50,10 +54,13 @@ TOKENS = [
     (Find('{"age":95}', '{"visits.place":1}'), 0, 3),
 ]
 
+# The same of `bsonwide`: the double that an age is compared with, the sort, the limit, and how many documents were given.
+WIDE_TOKENS = [("$gte", 89.5, "{}", 0, 3), ("$lt", 20.25, '{"name":-1}', 9, 4), ("$gt", 90.0, '{"age":1}', 0, 0), ("$lte", -0.5, "{}", 0, 0)]
 
-def run(find: Find) -> tuple[int, bytes, str]:
+
+def run(find: Find, program: Path = PROGRAM) -> tuple[int, bytes, str]:
     """How a run ends, and what it writes."""
-    ran = subprocess.run([PROGRAM, "find", DUMP, *find.words()], stdin=subprocess.DEVNULL, capture_output=True)
+    ran = subprocess.run([program, "find", DUMP, *find.words()], stdin=subprocess.DEVNULL, capture_output=True)
     return ran.returncode, ran.stdout, ran.stderr.decode()
 
 
@@ -116,7 +123,7 @@ def vector(find: Find, given: int, last: int | None) -> str:
 
 
 def test_vectors(tests: Tests) -> None:
-    kept = [line for line in VECTORS.read_text().splitlines() if not line.startswith("#")]
+    kept = [line for line in VECTORS.read_text().partition(WIDE_HEAD)[0].splitlines() if not line.startswith("#")]
     tests.want("the vectors are those of this script", kept == [vector(*it) for it in TOKENS])
     for (find, *_), line in zip(TOKENS, kept, strict=True):
         _, token, *rest = [part.strip() for part in f"{line} ".split(" =>")]
@@ -124,18 +131,79 @@ def test_vectors(tests: Tests) -> None:
         tests.want(f"find {line}", (status, out) == (0, lines([int(place) for it in rest for place in it.split()])), err)
 
 
+def numbers_in(value: Value) -> Iterator[Value]:
+    """The numbers in a document of the example, which has no code with scope."""
+    if value.kind in ("int", "long", "double"):
+        yield value
+    elif value.kind in ("object", "array"):
+        for it in value.of:
+            yield from numbers_in(it[1] if value.kind == "object" else it)
+
+
+class Ranks:
+    """The distinct numbers of a dump in order: the n-th has the rank 2n + 1, and what is between two has that between theirs."""
+
+    def __init__(self, documents: list[Value]) -> None:
+        self.table = sorted({rank(it) for document in documents for it in numbers_in(document)})
+
+    def ranked(self, value: Value, kind: str = "int") -> Value:
+        """The value with the rank of each number in its place, as a number of this kind."""
+        if value.kind in ("int", "long", "double"):
+            at = bisect_left(self.table, rank(value))
+            return Value(kind, 2 * at + (rank(value) in self.table[at : at + 1]))
+        if value.kind == "object":
+            return obj(*((name, self.ranked(it, kind)) for name, it in value.of))
+        return Value("array", tuple(self.ranked(it, kind) for it in value.of)) if value.kind == "array" else value
+
+
+def wide_vectors() -> list[tuple[Find, str]]:
+    """The requests with doubles, and the line of each with its token."""
+    ranks = Ranks(PEOPLE.documents)
+    copy = Dump(list(map(ranks.ranked, PEOPLE.documents)))
+    found = []
+    for name, double, sort, limit, given in WIDE_TOKENS:
+        find = Find(f'{{"age":{{"{name}":{double}}}}}', sort, limit=limit)
+        query = obj(("age", obj((name, Value("double", struct.pack("<d", double))))))
+        request = Request(query, read_document(sort.encode()), 0, limit)
+        coded = request._replace(query=ranks.ranked(query, "long"))
+        answer = PEOPLE.answer(request)
+        token = Token(given, answer[given - 1] if given else 0, copy.tied(coded))
+        rest = " ".join(map(str, PEOPLE.rest(request, token)))
+        found.append((find, f"{' '.join(find.words()).replace('=', ' ')} => {token.text()} => {rest}".strip()))
+    return found
+
+
+def test_wide_vectors(tests: Tests) -> None:
+    """Those of `bsonwide`: each is told by the batch before it, and what follows it comes."""
+    kept = VECTORS.read_text().partition(WIDE_HEAD)[2].splitlines()
+    wanted = wide_vectors()
+    tests.want("the vectors of bsonwide are those of this script", kept == [line for _, line in wanted])
+    program = PROGRAM.with_name("bsonwide")
+    for (find, line), (*_, given) in zip(wanted, WIDE_TOKENS, strict=True):
+        _, token, rest = [part.strip() for part in f"{line} ".split(" =>")]
+        if given:
+            told = run(find._replace(batch=given), program)[2].rstrip("\n").rpartition("token ")[2]
+            tests.want(f"bsonwide find {line}, the token", told == token, told)
+        status, out, err = run(find._replace(after=token), program)
+        tests.want(f"bsonwide find {line}", (status, out) == (0, lines([int(place) for place in rest.split()])), err)
+
+
 HEAD = """\
 # Tokens over examples/people.bson: the options of a request => a token => the numbers of the documents that follow.
 # The last two tokens were told by no batch: the count and the number in them are others.
+"""
+WIDE_HEAD = """\
+# The same of bsonwide: queries with doubles, over the same dump. The last two tokens were told by no batch.
 """
 
 
 def main() -> int:
     if sys.argv[1:] == ["--write"]:
-        VECTORS.write_text(HEAD + "".join(f"{vector(*it)}\n" for it in TOKENS))
+        wide = "".join(f"{line}\n" for _, line in wide_vectors())
+        VECTORS.write_text(HEAD + "".join(f"{vector(*it)}\n" for it in TOKENS) + WIDE_HEAD + wide)
         return 0
     tests = Tests()
-    for test in (test_pages, test_digests, test_vectors):
+    for test in (test_pages, test_digests, test_vectors, test_wide_vectors):
         test(tests)
     print(f"{tests.passed} passed, {tests.failed} failed")
     return 1 if tests.failed else 0
