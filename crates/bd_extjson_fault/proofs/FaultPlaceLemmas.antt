@@ -14,6 +14,7 @@ use Rattle.bd_extjson_fault.proofs.PlaceLemmas.{Gives, Decided, Settled, stop_at
 use Rattle.bd_extjson_fault.proofs.PlaceValueLemmas.{text_errs, text_ok}
 use Rattle.bd_extjson_fault.proofs.GoOnLemmas.{plain}
 use Rattle.bd_extjson_fault.proofs.GoOnValueLemmas.{Begins, text_begins}
+use Rattle.bd_extjson_fault.proofs.WholeLemmas.{before_utf8, plain_utf8}
 use Rattle.bd_extjson_fault.proofs.TextFaultLemmas.{of_no_json}
 
 abbrev fault_of : StopKind → ℕ → JsonFault
@@ -91,18 +92,9 @@ cannot_continue text inside plain other utf8 same = go d.short
 
 -- ---- until there it could
 
-plain_ascii : (text : List ℕ) → plain text ≡ true → IsAscii text
-unfolding plain
-plain_ascii [] p i = omega arith
-plain_ascii (b ∷ text) p zero = let low = (and_parts (nat_lt b 128) (plain text) p).0 in grind (arith, nat_tests, low)
-plain_ascii (b ∷ text) p (suc i) = plain_ascii text (and_parts (nat_lt b 128) (plain text) p).1 i
-
-plain_utf8 : (text : List ℕ) → plain text ≡ true → IsUtf8 text
-plain_utf8 text p = IsUtf8-from_ascii text (plain_ascii text p)
-
-before_fault : (text : List ℕ) (stop : Stop) → IsUtf8 text → IsUtf8 (take (text_fault text).at text) → beyond_text text ≡ Err stop → Begins text stop
+before_fault : (text : List ℕ) (stop : Stop) → IsUtf8 text → beyond_text text ≡ Err stop → Begins text stop
     → CutsSurrogate (take (text_fault text).at text) ⊎ BeginsJson (take (text_fault text).at text)
-before_fault text stop utf8 front e b = rw front_is (go b.goes)
+before_fault text stop utf8 e b = rw front (go b.goes)
   where
     size : length text ≡ length (b.before ++ b.rest)
     size = ap length b.split
@@ -110,16 +102,19 @@ before_fault text stop utf8 front e b = rw front_is (go b.goes)
     at : (text_fault text).at ≡ length b.before
     at = ap (λ f. f.at) (of_no_json text stop utf8 e) ∙ omega (arith, size, b.remaining, length-append b.before b.rest)
 
-    front_is : take (text_fault text).at text ≡ b.before
-    front_is = ap (λ n. take n text) at ∙ ap (λ x. take (length b.before) x) b.split ∙ take-append_seam b.before b.rest
+    front : take (text_fault text).at text ≡ b.before
+    front = ap (λ n. take n text) at ∙ ap (λ x. take (length b.before) x) b.split ∙ take-append_seam b.before b.rest
+
+    whole : IsUtf8 b.before
+    whole = before_utf8 text b.before b.rest stop utf8 e b.split b.remaining
 
     go : CutsSurrogate b.before ⊎ ((added : List ℕ) × (plain added ≡ true) × (beyond_text (b.before ++ added) ≡ Ok [])) → CutsSurrogate b.before ⊎ BeginsJson b.before
     go (inl cut) = inl cut
-    go (inr g) = inr (g.0, (IsUtf8-append b.before g.0 (rw front_is at front) (plain_utf8 g.0 g.1), g.2))
+    go (inr g) = inr (g.0, (IsUtf8-append b.before g.0 whole (plain_utf8 g.0 g.1), g.2))
 
 pub could_until_there : (text : List ℕ) → CouldUntilThere text
-could_until_there text utf8 no_json front = go (beyond_text text) refl
+could_until_there text utf8 no_json = go (beyond_text text) refl
   where
     go : (answer : Beyond) → beyond_text text ≡ answer → CutsSurrogate (take (text_fault text).at text) ⊎ BeginsJson (take (text_fault text).at text)
     go (Ok rest) is = absurd (no_json (utf8, is ∙ ap Ok (text_ok text rest is)))
-    go (Err stop) is = before_fault text stop utf8 front is (text_begins text stop is)
+    go (Err stop) is = before_fault text stop utf8 is (text_begins text stop is)

@@ -12,3 +12,4 @@ pub mod PlaceStringLemmas
 pub mod PlaceValueLemmas
 pub mod TextFaultLemmas
 pub mod TreeFaultLemmas
+pub mod WholeLemmas

@@ -50,5 +50,4 @@ BeginsJson bytes = (rest : List ℕ) × IsJson (bytes ++ rest)
 -- Until its fault a text could continue: the bytes before it begin some text that is JSON. Only those that end within an
 -- escape of a surrogate may be past saving, since its fault is told at an earlier byte once the escape is whole.
 abbrev pub CouldUntilThere : List ℕ → Type 0
-CouldUntilThere text = IsUtf8 text → ¬ (IsJson text) → IsUtf8 (take (text_fault text).at text)
-    → CutsSurrogate (take (text_fault text).at text) ⊎ BeginsJson (take (text_fault text).at text)
+CouldUntilThere text = IsUtf8 text → ¬ (IsJson text) → CutsSurrogate (take (text_fault text).at text) ⊎ BeginsJson (take (text_fault text).at text)

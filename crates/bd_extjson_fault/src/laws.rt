@@ -29,8 +29,8 @@ pub fn fault_is_not_early()
     ensures byte { (text : List ℕ) → CannotContinue text }
 {}
 
-/// Until its fault a text that is not JSON could continue: the bytes before it begin some text that is JSON, unless they end
-/// within an escape of a surrogate.
+/// Until its fault a text that is not JSON could continue: the bytes before it begin some text that is JSON. Only those that
+/// end within an escape of a surrogate may begin none.
 #[tactic(auto, using(crate::proofs::FaultPlaceLemmas::could_until_there))]
 pub fn fault_is_not_late()
     ensures { (text : List ℕ) → CouldUntilThere text }
