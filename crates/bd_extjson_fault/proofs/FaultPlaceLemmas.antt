@@ -1,8 +1,6 @@
 -- Where a text stops to be JSON.
-use Rattle.std.proofs.Common.{◌≡◌, ◌<◌, ◌-◌, ◌+◌, ◌∙◌, ◌++◌, ◌⊎◌, sym, refl, inl, inr, ℕ, zero, suc, true, false, List, [], ◌∷◌, length, take, drop, ap, Ok, Err, IsAscii, IsUtf8, append_assoc, length-append, take-append-drop, arith}
-use Rattle.std.specs.Prelude.{nat_lt}
-use Rattle.std.proofs.lemmas.{Bool.and_parts, Bool.Decides.nat_tests}
-use Rattle.std.proofs.lemmas.Str.{IsUtf8-append, IsUtf8-from_ascii}
+use Rattle.std.proofs.Common.{◌≡◌, ◌-◌, ◌+◌, ◌∙◌, ◌++◌, ◌⊎◌, sym, refl, inl, inr, ℕ, suc, true, false, List, [], ◌∷◌, length, take, drop, ap, Ok, Err, IsUtf8, append_assoc, length-append, take-append-drop, arith}
+use Rattle.std.proofs.lemmas.Str.{IsUtf8-append}
 use Rattle.std.proofs.Math.Seq.{take-append-add, take-append_seam, drop-append_seam}
 use Rattle.bd_extjson_fault.specs.declared.json_fault.JsonFault.{JsonFault}
 use Rattle.bd_extjson_fault.specs.declared.skip.Stop.{Stop}

@@ -1,13 +1,12 @@
 -- How a text can go on before its fault: bytes that complete the item, and what may come before and after them.
-use Rattle.std.proofs.Common.{◌≡◌, ◌≢◌, ◌≤◌, ◌<◌, ◌-◌, ◌+◌, ◌==◌, ◌∙◌, ◌++◌, sym, refl, not, ◌||◌, ◌&&◌, ◌⊎◌, inl, inr, if◌then◌else◌, ℕ, zero, suc, Bool, true, false, List, [], ◌∷◌, length, drop, ap, Ok, Err, Option, Some, None, append_assoc, arith}
+use Rattle.std.proofs.Common.{◌≡◌, ◌==◌, ◌∙◌, ◌++◌, sym, refl, ◌||◌, ◌&&◌, ◌⊎◌, inl, inr, if◌then◌else◌, ℕ, Bool, true, false, List, [], ◌∷◌, length, drop, ap, Ok, Err, Some, append_assoc}
 use Rattle.std.specs.Prelude.{Result, nat_lt}
-use Rattle.std.proofs.lemmas.{Bool.Decides.nat_tests}
 use Rattle.bd_extjson_fault.specs.declared.skip.Stop.{Stop}
 use Rattle.bd_extjson_fault.specs.declared.skip.StopKind.{StopKind}
 use Rattle.bd_extjson_fault.specs.declared.skip.StopKind.TheVariants.{Syntax}
 use Rattle.bd_extjson_fault.specs.FaultPlace.{CutsSurrogate}
 use Rattle.bd_extjson_fault.specs.JsonSyntax.{Beyond, ◌>>=◌, syntax_at, begins, beyond_all, beyond_if, beyond_white, is_white, beyond_word, is_decimal, beyond_digits, beyond_natural, beyond_fraction, beyond_exponent, beyond_number}
-use Rattle.bd_extjson_fault.proofs.PlaceLemmas.{first_of, begins_same, begins_fits, ends, Fits, Gives, Passed, Always, Firms, Oks, stop_at, no_more, word_passes, run_of, run_ends}
+use Rattle.bd_extjson_fault.proofs.PlaceLemmas.{first_of, begins_same, begins_fits, ends, Fits, Gives, Passed, Always, stop_at, no_more, word_passes, run_of, run_ends}
 use Rattle.bd_extjson_fault.proofs.PlaceNumberLemmas.{whole_part, whole_oks, fraction_oks}
 use Rattle.bd_extjson_fault.proofs.PlaceLemmas.{then_oks}
 

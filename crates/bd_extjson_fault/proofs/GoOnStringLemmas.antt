@@ -1,5 +1,5 @@
 -- How a string can go on before its fault.
-use Rattle.std.proofs.Common.{◌≡◌, ◌≢◌, ◌≤◌, ◌<◌, ◌-◌, ◌+◌, ◌*◌, ◌==◌, ◌∙◌, ◌++◌, sym, refl, not, ◌||◌, ◌&&◌, ◌⊎◌, inl, inr, if◌then◌else◌, ℕ, zero, suc, Bool, true, false, List, [], ◌∷◌, length, drop, ap, Ok, Err, append_assoc, append-nil, length-append, le_refl, arith}
+use Rattle.std.proofs.Common.{◌≡◌, ◌≤◌, ◌<◌, ◌+◌, ◌*◌, ◌==◌, ◌∙◌, ◌++◌, sym, refl, ◌||◌, ◌⊎◌, inl, inr, ℕ, zero, suc, Bool, true, false, List, [], ◌∷◌, length, drop, ap, Ok, Err, append-nil, length-append, le_refl, arith}
 use Rattle.std.specs.Prelude.{Result, codes, nat_lt, nat_le}
 use Rattle.std.specs.Char.{digit_value, is_digit}
 use Rattle.std.proofs.lemmas.{Bool.Decides.nat_tests}
@@ -7,10 +7,10 @@ use Rattle.json.specs.Text.{is_high_surrogate, is_low_surrogate}
 use Rattle.bd_extjson_fault.specs.declared.skip.Stop.{Stop}
 use Rattle.bd_extjson_fault.specs.declared.skip.StopKind.TheVariants.{Syntax}
 use Rattle.bd_extjson_fault.specs.FaultPlace.{begins_as_surrogate, CutsSurrogate}
-use Rattle.bd_extjson_fault.specs.JsonSyntax.{Beyond, ◌>>=◌, syntax_at, begins, beyond_all, beyond_white, beyond_word, beyond_hex, beyond_unit, beyond_low, beyond_units, is_short_escape, beyond_escape, beyond_character, beyond_items, beyond_string, beyond_name}
-use Rattle.bd_extjson_fault.proofs.PlaceLemmas.{first_of, begins_same, Gives, Piece, Always, Firms, stop_at, bind_ok, firm_piece, word_split, word_firm}
-use Rattle.bd_extjson_fault.proofs.PlaceStringLemmas.{Unit4, first, second, third, fourth, HexOf, hex_of, Answered, same_number, character_piece, Items, items_on, items_close, is_quote, string_firm, quoted, quoted_piece, colon, named}
-use Rattle.bd_extjson_fault.proofs.GoOnLemmas.{plain, plain_nil, Starts, Goes, Completed, Completes, onward, instead, starts_past, some_byte, begins_start, then_completes, white_completes, word_completes}
+use Rattle.bd_extjson_fault.specs.JsonSyntax.{Beyond, ◌>>=◌, syntax_at, begins, beyond_all, beyond_word, beyond_hex, beyond_unit, beyond_low, beyond_units, is_short_escape, beyond_escape, beyond_character, beyond_items, beyond_string, beyond_name}
+use Rattle.bd_extjson_fault.proofs.PlaceLemmas.{Gives, Always, stop_at, bind_ok, firm_piece, word_split, word_firm}
+use Rattle.bd_extjson_fault.proofs.PlaceStringLemmas.{Unit4, first, second, third, fourth, hex_of, Answered, same_number, character_piece, Items, items_on, items_close, is_quote, quoted, quoted_piece, colon, named}
+use Rattle.bd_extjson_fault.proofs.GoOnLemmas.{plain, plain_nil, Goes, Completed, Completes, onward, instead, starts_past, some_byte, begins_start, then_completes, white_completes, word_completes}
 
 -- ---- escapes
 

@@ -1,17 +1,16 @@
 -- How a value can go on before its fault.
-use Rattle.std.proofs.Common.{◌≡◌, ◌≢◌, ◌≤◌, ◌<◌, ◌-◌, ◌+◌, ◌==◌, ◌∙◌, ◌++◌, sym, refl, not, ◌||◌, ◌&&◌, ◌⊎◌, inl, inr, if◌then◌else◌, ℕ, zero, suc, Bool, true, false, List, [], ◌∷◌, length, drop, ap, Ok, Err, append_assoc, append-nil, length-append, arith}
+use Rattle.std.proofs.Common.{◌≡◌, ◌≤◌, ◌<◌, ◌==◌, ◌∙◌, ◌++◌, sym, refl, ◌||◌, ◌⊎◌, inl, inr, ℕ, zero, suc, Bool, true, false, List, [], ◌∷◌, length, drop, ap, Ok, Err, append_assoc, append-nil, length-append, arith}
 use Rattle.std.specs.Prelude.{Result, codes}
-use Rattle.std.proofs.lemmas.{Bool.Decides.nat_tests}
 use Rattle.bd_value.specs.Limits.{most_brackets}
 use Rattle.bd_extjson_fault.specs.declared.skip.Stop.{Stop}
 use Rattle.bd_extjson_fault.specs.declared.skip.StopKind.TheVariants.{Syntax, TooDeep, TrailingText}
 use Rattle.bd_extjson_fault.specs.FaultPlace.{CutsSurrogate}
-use Rattle.bd_extjson_fault.specs.JsonSyntax.{Beyond, ◌>>=◌, syntax_at, begins, beyond_all, beyond_white, is_white, beyond_word, beyond_string, beyond_digits, beyond_natural, beyond_fraction, beyond_exponent, beyond_number, beyond_name, beyond_next, beyond_parts, beyond_group, beyond_array, beyond_member, beyond_object, beyond_scalar, beyond_unnested, beyond_nested, beyond_value, beyond_text, opens_object, opens_array}
+use Rattle.bd_extjson_fault.specs.JsonSyntax.{Beyond, ◌>>=◌, syntax_at, begins, beyond_all, beyond_white, is_white, beyond_word, beyond_string, beyond_natural, beyond_number, beyond_name, beyond_next, beyond_parts, beyond_group, beyond_array, beyond_member, beyond_object, beyond_scalar, beyond_unnested, beyond_nested, beyond_value, beyond_text, opens_object, opens_array}
 use Rattle.bd_extjson_fault.proofs.PassingLemmas.{value_scalar}
-use Rattle.bd_extjson_fault.proofs.PlaceLemmas.{first_of, begins_same, ends, Fits, begins_fits, Gives, Passed, Always, Firms, Oks, stop_at, loose, bind_ok, run_of, run_ends}
+use Rattle.bd_extjson_fault.proofs.PlaceLemmas.{first_of, Fits, Gives, Passed, Always, stop_at, run_of, run_ends}
 use Rattle.bd_extjson_fault.proofs.PlaceStringLemmas.{name_firm}
-use Rattle.bd_extjson_fault.proofs.PlaceValueLemmas.{Next, comma, after_part, next_of, Parts, Reads, parts_after, parts_on, parts_end, shorter, parts_white, group_parts, member_reads, is_letter, scalar_number, is_bracket, unnested_deep, unnested_flat, nested_flat, either_bracket, value_reads, last, text_ok}
-use Rattle.bd_extjson_fault.proofs.GoOnLemmas.{plain, plain_nil, Starts, Ends, Goes, Completed, Completes, onward, instead, starts_past, starts_white, some_byte, begins_start, end_begins, some_taken, then_completes, white_completes, word_completes, number_complete, no_fraction, no_exponent}
+use Rattle.bd_extjson_fault.proofs.PlaceValueLemmas.{Next, after_part, next_of, Parts, Reads, parts_after, parts_on, parts_end, shorter, parts_white, group_parts, member_reads, is_letter, scalar_number, is_bracket, unnested_deep, unnested_flat, nested_flat, either_bracket, value_reads, last}
+use Rattle.bd_extjson_fault.proofs.GoOnLemmas.{plain, plain_nil, Starts, Ends, Goes, Completed, Completes, onward, instead, starts_past, starts_white, some_byte, begins_start, some_taken, then_completes, white_completes, word_completes, number_complete, no_fraction, no_exponent}
 use Rattle.bd_extjson_fault.proofs.GoOnStringLemmas.{string_completes, name_completes, no_name}
 
 -- a closing bracket

@@ -1,5 +1,5 @@
 -- The bytes before a fault are whole characters: the byte before it, or the byte at it, is of ASCII.
-use Rattle.std.proofs.Common.{◌≡◌, ◌≤◌, ◌<◌, ◌-◌, ◌+◌, ◌==◌, ◌∙◌, ◌++◌, sym, refl, not, ◌||◌, ◌&&◌, ◌⊎◌, inl, inr, if◌then◌else◌, ℕ, zero, suc, Bool, true, false, List, [], ◌∷◌, length, take, drop, get_or, ap, Ok, Err, IsAscii, IsUtf8, append_assoc, append-nil, length-append, le_refl, arith}
+use Rattle.std.proofs.Common.{◌≡◌, ◌≤◌, ◌<◌, ◌==◌, ◌∙◌, ◌++◌, sym, refl, ◌||◌, ◌⊎◌, inl, inr, if◌then◌else◌, ℕ, zero, suc, Bool, true, false, List, [], ◌∷◌, length, take, drop, get_or, ap, Ok, Err, IsAscii, IsUtf8, append_assoc, append-nil, length-append, le_refl, arith}
 use Rattle.std.specs.Prelude.{Result, codes, nat_lt}
 use Rattle.std.specs.Char.{digit_value, is_digit}
 use Rattle.std.specs.Str.{IsCharBoundary}
@@ -11,8 +11,8 @@ use Rattle.json.specs.Text.{is_high_surrogate, is_low_surrogate}
 use Rattle.bd_extjson_fault.specs.declared.skip.Stop.{Stop}
 use Rattle.bd_extjson_fault.specs.declared.skip.StopKind.{StopKind}
 use Rattle.bd_extjson_fault.specs.declared.skip.StopKind.TheVariants.{Syntax, TooDeep, TrailingText}
-use Rattle.bd_extjson_fault.specs.JsonSyntax.{Beyond, ◌>>=◌, syntax_at, begins, beyond_if, beyond_all, beyond_white, is_white, beyond_word, is_decimal, beyond_digits, beyond_natural, beyond_fraction, beyond_exponent, beyond_number, beyond_hex, beyond_unit, beyond_low, beyond_units, is_short_escape, beyond_escape, beyond_character, beyond_items, beyond_string, beyond_name, beyond_next, beyond_parts, beyond_group, beyond_array, beyond_member, beyond_object, beyond_scalar, beyond_unnested, beyond_nested, beyond_value, beyond_text, opens_object, opens_array}
-use Rattle.bd_extjson_fault.proofs.PlaceLemmas.{Piece, stop_at, bind_ok, run_of}
+use Rattle.bd_extjson_fault.specs.JsonSyntax.{Beyond, ◌>>=◌, syntax_at, begins, beyond_if, beyond_all, beyond_white, is_white, beyond_word, is_decimal, beyond_digits, beyond_natural, beyond_fraction, beyond_exponent, beyond_number, beyond_hex, beyond_unit, beyond_low, beyond_units, is_short_escape, beyond_escape, beyond_character, beyond_items, beyond_string, beyond_name, beyond_next, beyond_parts, beyond_group, beyond_array, beyond_member, beyond_object, beyond_scalar, beyond_unnested, beyond_nested, beyond_value, beyond_text}
+use Rattle.bd_extjson_fault.proofs.PlaceLemmas.{stop_at}
 use Rattle.bd_extjson_fault.proofs.PlaceNumberLemmas.{whole_part}
 use Rattle.bd_extjson_fault.proofs.PlaceStringLemmas.{Unit4, first, second, third, fourth, Answered, same_number, character_piece, is_quote, quoted, colon, named}
 use Rattle.bd_extjson_fault.proofs.PlaceValueLemmas.{Next, after_part, parts_after, is_bracket, unnested_deep, unnested_flat, nested_flat, either_bracket, last}
