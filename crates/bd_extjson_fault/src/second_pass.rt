@@ -2,7 +2,7 @@
 //!
 //! If the text is not JSON, the pass ends there. The first fault of the tree is remembered until all of the text is known to
 //! be JSON.
-ghost use Rattle.std.specs.Prelude.{◌≡◌, ◌≢◌, ◌-◌, ◌<◌, ◌≤◌, ◌==◌, ℕ, IfErr, IfOk, OnErr, OnOk, MatchResult, Some, None, Ok, Err, if◌then◌else◌, [], ◌∷◌, map, drop, length, IfSome, option_and_then};
+ghost use Rattle.std.specs.Prelude.{◌≡◌, ◌≢◌, ◌-◌, ◌<◌, ◌≤◌, ◌==◌, ℕ, IfErr, IfOk, IsOk, OnErr, OnOk, MatchResult, Some, None, Ok, Err, if◌then◌else◌, [], ◌∷◌, map, drop, length, IfSome, option_and_then};
 ghost use Rattle.std.specs.Option.{option_or};
 ghost use Rattle.std.specs.Str.{IsUtf8};
 ghost use Rattle.bd_value.specs.Limits.{most_brackets, most_levels};
@@ -18,6 +18,7 @@ ghost use Rattle.bd_extjson_fault.specs.inside.SecondPass.{Passes, IsWithin, fou
 ghost use Rattle.bd_extjson_fault.specs.TextFault.{text_fault, stop_in, fault_in, tree_or_none};
 ghost use Rattle.bd_extjson_fault.specs.declared.json_fault.JsonFaultKind.TheVariants as kinds;
 ghost use Rattle.bd_extjson_fault.specs.declared.second_pass.Halt.TheVariants as halts;
+ghost use Rattle.bd_extjson_fault.specs.declared.skip.Stop.{Stop};
 ghost use Rattle.bd_extjson_fault.specs.declared.tree_fault.TreeFaultKind.TheVariants.{BadWrapper};
 
 use crate::json_fault::{JsonFault, JsonFaultKind};
@@ -56,15 +57,11 @@ pub fn diagnose(alloc: Global, text: &str) -> JsonFault
     ensures offset { IsLocated (length text.now) result }
     // The fault is that of the text, unless memory runs out.
     ensures is { result.kind ≢ kinds.NoMemory → result ≡ text_fault text.now }
+    // A text that is not JSON is reported as such, since that takes no memory.
+    ensures syntax { (stop : Stop) → beyond_text text.now ≡ Err stop →
+        result ≡ stop_in (length text.now) stop }
 {
-    let (scratch, rest, fault) = (Scratch::new(alloc), text.as_bytes(), None);
-    let mut pass = Pass {
-        alloc,
-        scratch,
-        rest,
-        fault,
-    };
-    match pass.document() {
+    match pass_over(alloc, text) {
         Ok(None) => syntax_at(text.len()),
         Ok(Some(fault)) => fault,
         Err(Halt::NoJson(stop)) => stop_in(stop, text.len()),
@@ -73,6 +70,19 @@ pub fn diagnose(alloc: Global, text: &str) -> JsonFault
             at: 0,
         },
     }
+}
+
+/// The first fault of the tree of a text, or that it is not a document. The JSON is passed over first, which takes no memory.
+fn pass_over(alloc: Global, text: &str) -> Result<Option<JsonFault>, Halt>
+    ensures beyond { Passes result [] (beyond_text text.now) }
+    ensures within { IfErr result (IsWithin (length text.now)) }
+    ensures offset { IfOk result (λ f. IfSome f (IsLocated (length text.now))) }
+    ensures first { IfOk result (λ f. f
+        ≡ tree_or_none text.now (value_fault most_brackets most_levels text.now)) }
+    ensures memory { result ≡ Err halts.NoMemory → beyond_text text.now ≡ Ok [] }
+{
+    Pass::new(alloc, text).whole(None)?;
+    Pass::new(alloc, text).document()
 }
 
 fn syntax_at(at: usize) -> JsonFault
@@ -203,6 +213,19 @@ struct Pass<'a> {
 }
 
 impl<'a> Pass<'a> {
+    /// A pass over this text, which has skipped nothing.
+    fn new(alloc: Global, text: &'a str) -> Pass<'a>
+        ensures rest { result.rest.now ≡ text.now }
+        ensures fault { result.fault ≡ None }
+    {
+        Pass {
+            alloc,
+            scratch: Scratch::new(alloc),
+            rest: text.as_bytes(),
+            fault: None,
+        }
+    }
+
     /// The first fault of the tree of the whole text, or that it is not a document.
     fn document(&mut self) -> Result<Option<JsonFault>, Halt>
         ensures beyond { Passes result [] (beyond_text self.old.rest.now) }
@@ -213,7 +236,7 @@ impl<'a> Pass<'a> {
             (value_fault most_brackets most_levels self.old.rest.now)) }
     {
         let text = self.rest;
-        self.whole()?;
+        self.whole(Some(MOST_LEVELS))?;
         if let Some(fault) = self.fault {
             return Ok(Some(fault_in(fault, text.len())));
         }
@@ -226,15 +249,16 @@ impl<'a> Pass<'a> {
         }))
     }
 
-    /// Skips the whole text, which must be one value.
+    /// Skips the whole text, which must be one value. Faults of the tree are searched if there is a `depth_left`.
     #[tactic(auto, unfolding(crate::specs::JsonSyntax::beyond_text))]
-    fn whole(&mut self) -> Result<(), Halt>
+    fn whole(&mut self, depth_left: Option<usize>) -> Result<(), Halt>
         ensures beyond { Passes result [] (beyond_text self.old.rest.now) }
         ensures within { IfErr result (IsWithin (length self.old.rest.now)) }
-        ensures fault { OnOk result (self.new.fault
-            ≡ option_or self.old.fault (value_fault most_brackets most_levels self.old.rest.now)) }
+        ensures fault { OnOk result (self.new.fault ≡ found self.old.fault depth_left
+            (λ r. value_fault most_brackets r self.old.rest.now)) }
+        ensures memory { depth_left ≡ None → result ≢ Err halts.NoMemory }
     {
-        self.value(MOST_BRACKETS, Some(MOST_LEVELS))?;
+        self.value(MOST_BRACKETS, depth_left)?;
         let after = skip_white(self.rest);
         if !after.is_empty() {
             return Err(Halt::NoJson(Stop::at(after, StopKind::TrailingText)));
@@ -265,6 +289,7 @@ impl<'a> Pass<'a> {
             (IsWithin (length self.old.rest.now)) }
         ensures fault { OnOk result (self.new.fault
             ≡ found self.old.fault depth_left (λ r. value_fault level r self.old.rest.now)) }
+        ensures memory { depth_left ≡ None → result ≢ Err halts.NoMemory }
     {
         let here = skip_white(self.rest);
         let is_object = begins(here, b'{');
@@ -333,6 +358,7 @@ impl<'a> Pass<'a> {
         ensures fault { OnOk result (self.new.fault ≡ found self.old.fault depth_left
             (λ r. array_fault (beyond_value level) (value_fault level) r text.now
             self.old.rest.now)) }
+        ensures memory { depth_left ≡ None → result ≢ Err halts.NoMemory }
     {
         let depth_left = self.deeper(text, depth_left);
         let mut more = !self.closes(b']');
@@ -360,6 +386,7 @@ impl<'a> Pass<'a> {
         ensures fault { OnOk result (self.new.fault ≡ found self.old.fault depth_left
             (λ r. object_fault (beyond_value level) (value_fault level) r text.now
             self.old.rest.now)) }
+        ensures memory { depth_left ≡ None → result ≢ Err halts.NoMemory }
     {
         let Some(levels) = depth_left else {
             return self.members(text, level, depth_left);
@@ -406,6 +433,7 @@ impl<'a> Pass<'a> {
         ensures fault { OnOk result (self.new.fault ≡ found self.old.fault depth_left
             (λ r. document_fault (beyond_value level) (value_fault level) r text.now
             self.old.rest.now)) }
+        ensures memory { depth_left ≡ None → result ≢ Err halts.NoMemory }
     {
         let depth_left = self.deeper(text, depth_left);
         if self.closes(b'}') {
@@ -427,6 +455,7 @@ impl<'a> Pass<'a> {
             OnOk result (self.new.fault ≡ found self.old.fault depth_left (λ r.
             first_in (member_fault (value_fault level r)) (parts_from (λ b.
             b == 125) (beyond_member (beyond_value level)) n self.old.rest.now))) }
+        ensures memory { depth_left ≡ None → result ≢ Err halts.NoMemory }
     {
         let mut more = true;
         while more {
@@ -594,6 +623,7 @@ impl<'a> Pass<'a> {
         ensures same { self.new.rest.now ≡ self.old.rest.now }
         ensures fault { OnOk result (self.new.fault ≡ found self.old.fault depth_left
             (λ r. zero_fault key.now.quoted.now key.now.from.now)) }
+        ensures memory { depth_left ≡ None → IsOk result }
     {
         if depth_left.is_some() && read_name(self.alloc, key.quoted, &mut self.scratch)?.has_zero {
             self.note(key.from, Some(TreeFaultKind::NulInName));
