@@ -1,17 +1,18 @@
 //! A line as the bytes of the document that it is.
-ghost use Rattle.std.specs.Prelude.{◌≡◌, ◌++◌, IfOk, IfSome, OnErr, None, Some, Ok};
+ghost use Rattle.std.specs.Prelude.{◌≡◌, ◌++◌, ◌<◌, ◌≤◌, ℕ, List, length, IfOk, IfSome, OnErr, None, Some, Ok};
 ghost use Rattle.std.specs.Str.{IsUtf8};
-ghost use Rattle.bd_value.specs.Tree.{Doc};
+ghost use Rattle.bd_value.specs.{Limits.longest_document, Tree.Doc, View.pairs};
+ghost use Rattle.bd_extjson.specs.Read.{ReadsAs};
 ghost use Rattle.bd_extjson_fault.specs.TextFault.{text_fault};
 ghost use Rattle.bd_extjson_pack.specs.Packable.{plain, IsPackable, IsBad};
-ghost use Rattle.bd_extjson_pack.specs.declared.line.LineFault.TheVariants.{Unread};
+ghost use Rattle.bd_extjson_pack.specs.declared.line.LineFault.TheVariants.{TooLong, Unread};
 
 use crate::refusal::Refusal;
 use crate::tokens::spell_line;
 use bd_bson_write::{WriteFault, write_document};
 use bd_extjson::{fault_of, read_doc_text};
 use bd_extjson_fault::{JsonFault, JsonFaultKind, text_of};
-use bd_value::NoMemory;
+use bd_value::{Document, NoMemory};
 use json::Scratch;
 use std::alloc::{AllocError, Global};
 use std::mem;
@@ -108,7 +109,26 @@ fn pack_tree(
         Err(fault) if fault.kind == JsonFaultKind::NoMemory => return Err(AllocError),
         Err(fault) => return Ok(Some(LineFault::Unread(fault))),
     };
-    match write_document(alloc, &document) {
+    pack_document(alloc, &document, out)
+}
+
+/// Packs the document that a text is.
+fn pack_document(
+    alloc: Global,
+    document: &Document,
+    out: &mut Vec<u8>,
+) -> Result<Option<LineFault>, NoMemory>
+    requires { (text : List ℕ) × ReadsAs text (pairs document.now) }
+    ensures packed { result ≡ Ok None → (length (plain (pairs document.now)) ≤ longest_document)
+        × (out.new.items ≡ out.old.items ++ plain (pairs document.now)) }
+    ensures bad { IfOk result (λ o. IfSome o (λ f. (f ≡ TooLong)
+        × (longest_document < length (plain (pairs document.now))) × (out.new ≡ out.old))) }
+    // A document that is too long is refused as such, since it takes no memory.
+    ensures too_long { longest_document < length (plain (pairs document.now)) →
+        result ≡ Ok (Some TooLong) }
+    ensures err { OnErr result (out.new.items ≡ out.old.items) }
+{
+    match write_document(alloc, document) {
         Ok(bytes) => {
             out.extend_from_slice(&bytes)?;
             Ok(None)

@@ -1,16 +1,4 @@
-use Rattle.std.proofs.Common.{◌<◌, Err, true≢false, ap, sym, ◌∙◌, arith}
-use Rattle.bd_value.specs.{Limits.most_levels, Tree.depth, Tree.doc, Tree.fields_of, View.pairs}
-use Rattle.bd_extjson_pack.proofs.PlainLemmas.{reads_plain}
 use Rattle.bd_extjson_pack.proofs.line.pack_tree.Goals as goal
 
-pub unreachable-requires : goal.unreachable-requires
-unreachable-requires c =
-    let p = reads_plain c.args.text.now (pairs c.in-Ok.document) c.in-Ok.ensures.found in
-    let deep : most_levels < depth (doc (fields_of (pairs c.in-Ok.document))) = c.write_document.ensures.too_deep.0 (c.in-Err-TooDeep.is ∙ ap Err c.in-Err-TooDeep.field-0-is) in
-    let shallow = p.0 in omega arith
-
-pub unreachable-requires-in-Err-NulInName : goal.unreachable-requires-in-Err-NulInName
-unreachable-requires-in-Err-NulInName c =
-    let p = reads_plain c.args.text.now (pairs c.in-Ok.document) c.in-Ok.ensures.found in
-    let zero = c.write_document.ensures.zero.0 (c.in-Err-NulInName.is ∙ ap Err c.in-Err-NulInName.field-0-is) in
-    true≢false (sym zero.1 ∙ p.1)
+pub pack_document-requires : goal.pack_document-requires
+pack_document-requires c = (c.args.text.now, c.in-Ok.ensures.found)
