@@ -8,14 +8,15 @@ use Rattle.std.specs.Io.KnownBytes.{Consumes, IsAtEnd}
 use Rattle.bd_value.specs.{Limits.longest_document, Limits.longest_input, Tree.Doc}
 use Rattle.bd_io_device.specs.Devices.{AreReads, Over, Reader, TakesText, Writer, WriteFailsWithin, between}
 use Rattle.bd_extjson.specs.Read.{ReadsAs, reading}
-use Rattle.bd_extjson_fault.specs.TextFault.{text_fault}
+use Rattle.bd_extjson_fault.specs.{TextFault.text_fault, declared.json_fault.JsonFaultKind.JsonFaultKind}
+use Rattle.bd_extjson_fault.specs.declared.json_fault.JsonFaultKind.TheVariants as kinds
 use Rattle.bd_extjson_pack.specs.Packable.{plain, IsPackable, IsBad}
 use Rattle.bd_extjson_pack.specs.declared.line.LineFault.{LineFault}
 use Rattle.bd_cli_files.specs.{declared.pack.BadLine.BadLine, declared.pack.Packing.Packing}
 use Rattle.bd_cli_scan.specs.{declared.output.Status.Status, declared.output.Status.TheVariants.Failed}
 use Rattle.bd_cli_scan.specs.Input.{ReadsInput}
 use Rattle.bd_cli_scan.specs.Output.{Transcript, cannot_write, error_line, no_memory, wrong_line, wrong_status}
-use Rattle.bd_cli_files.specs.Pack.{Form, IsOutputBy, IsOutputOfPack, PacksBy, PacksLines, bad_line_text, named, objects_packed, pack_output, pack_run_by, text_run}
+use Rattle.bd_cli_files.specs.Pack.{Form, IsOutputBy, IsOutputOfPack, PacksBy, PacksLines, bad_line_text, byte_text, named, objects_packed, pack_output, pack_run_by, text_run}
 use Rattle.bd_cli_scan.specs.Run.{Prints, ReportsMessage}
 use Rattle.bd_cli_files.specs.inside.Pack.{ArePacked, IsTaken, PacksFirst}
 use Rattle.bd_io_lines.specs.Lines.{IsLine, is_empty_line, is_newline, text_lines}
@@ -95,6 +96,13 @@ packs_some number (line ∷ lines) = by_blank (is_empty_line line) refl (packs_s
     by_blank true blank rest = (rest.0, rest.1, inl (blank, rest.2))
     by_blank false full rest = by_reading (reading line) refl full rest
 
+-- ---- the message of a bad line
+
+-- a line that is no document as a whole has no byte; any other fault has one
+pub byte_is : (words : List ℕ) (kind : JsonFaultKind) (at : ℕ) → (kind ≡ kinds.NotADocument → ⊥) → byte_text words kind at ≡ words ++ decimal at
+byte_is words kinds.NotADocument at other = absurd (other refl)
+byte_is words kind at other = refl
+
 -- ---- the end of a run
 
 -- these lines are all: the documents before the first bad line are all that are packed
@@ -116,19 +124,14 @@ module _ (form : Form) {P : Type 0} (program text : List ℕ) (packing : Packing
   is_output : IsOutputBy form (Ok text) output
   is_output = (packed.0, packing.bad, all_packed, refl)
 
-  -- the bad line, if any, and the count were reported, or that memory ran out for the bad line
+  -- the bad line, if any, and the count were reported
   abbrev ReportsPacking : ℕ → Type 0
   ReportsPacking count =
       ReportsMessage (between err_old err_new) (wrong_line program (option_map bad_line_text packing.bad) ++ (decimal count ++ objects_packed)) (wrong_status (option_map bad_line_text packing.bad)) status
-      ⊎ ((bad : BadLine) × (packing.bad ≡ Some bad) × ReportsMessage (between err_old err_new) (error_line program no_memory) Failed status)
 
   pub prints_packing : TakesText (between out_old out_new) packing.bytes.items → ReportsPacking packing.count → PrintsText
-  prints_packing wrote reported = go (subst (TakesText (between out_old out_new)) packed.2 wrote) (subst ReportsPacking packed.3 reported)
-    where
-      go : TakesText (between out_old out_new) output.out → ReportsPacking (length packed.0) → PrintsText
-      go took (inl ends) = inl (output, is_output, took, ends)
-      go took (inr (bad, is, ends)) =
-          inr (inr (output.out, (packed.0, bad, subst (PacksBy form 1 (text_lines text) packed.0) is all_packed, refl), took, ends))
+  prints_packing wrote reported =
+      inl (output, is_output, subst (TakesText (between out_old out_new)) packed.2 wrote, subst ReportsPacking packed.3 reported)
 
   pub prints_unwritten : WriteFailsWithin (between out_old out_new) packing.bytes.items → ReportsMessage (between err_old err_new) (error_line program cannot_write) Failed status → PrintsText
   prints_unwritten failed reported =
@@ -139,7 +142,7 @@ pub after_text : (form : Form) {program : List ℕ} (file : Over Reader) {out er
     → Prints program (text_run form text) out err status → Prints program (pack_run_by form file) out err status
 after_text form file text read (inl (output, is, took, reported)) = inl (output, (Ok text, read, is), took, reported)
 after_text form file text read (inr (inl (written, piece, next, failed, reported))) = inr (inl (written, piece, (text, read, next), failed, reported))
-after_text form file text read (inr (inr (written, begun, took, reported))) = inr (inr (written, (text, read, begun), took, reported))
+after_text form file text read (inr (inr (written, begun, took, reported))) = inr (inr (written, begun, took, reported))
 
 -- ---- one more line
 

@@ -71,21 +71,20 @@ IsOutputBy form (Ok text) output = (ds : List form.Document) × (bad : Option Ba
     × PacksBy form 1 (text_lines text) ds bad × (output ≡ pack_output form ds bad)
 IsOutputBy form (Err fault) output = output ≡ refusal_output (read_words fault)
 
--- A run of `pack` for this text. Memory may run out for the message of a bad line, once all documents before it are written.
+-- A run of `pack` for this text, which takes no memory.
 abbrev pub text_run : Form → List ℕ → Run
 text_run form text = record {
   IsOutput = IsOutputBy form (Ok text);
   IsNext = λ written piece. (output : Transcript) × IsOutputBy form (Ok text) output × (written ≡ []) × (piece ≡ output.out);
-  IsBegun = λ written. (ds : List form.Document) × (bad : BadLine) × PacksBy form 1 (text_lines text) ds (Some bad)
-      × (written ≡ flat_map form.bson ds);
+  IsBegun = λ written. ⊥;
 }
 
--- A run of `pack` in a form: it reads its whole input first.
+-- A run of `pack` in a form: it reads its whole input first, and packs it. If memory runs out, that is before anything is written.
 abbrev pub pack_run_by : Form → Over Reader → Run
 pack_run_by form file = record {
   IsOutput = λ output. (input : Result (List ℕ) ReadFault) × ReadsInput file input × IsOutputBy form input output;
   IsNext = λ written piece. (text : List ℕ) × ReadsInput file (Ok text) × (text_run form text).IsNext written piece;
-  IsBegun = λ written. (text : List ℕ) × ReadsInput file (Ok text) × (text_run form text).IsBegun written;
+  IsBegun = λ written. ⊥;
 }
 
 -- ---- `bsonfind`

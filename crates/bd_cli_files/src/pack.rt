@@ -1,25 +1,25 @@
 //! `pack`: the documents in lines of text, as BSON.
 
-ghost use Rattle.std.specs.Prelude.{◌≡◌, ◌++◌, ◌∷◌, ◌+◌, ◌≤◌, ◌⊎◌, ℕ, List, [], Err, IfErr, IfOk, IfSome, None, OnErr, OnOk, Ok, Some, length, decimal, option_map, string_bytes};
+ghost use Rattle.std.specs.Prelude.{◌≡◌, ◌++◌, ◌∷◌, ◌+◌, ◌≤◌, ℕ, List, [], Err, IfErr, IfOk, IfSome, None, OnErr, OnOk, Ok, codes, length, decimal, option_map};
 ghost use Rattle.bd_value.specs.Limits.{longest_input};
-ghost use Rattle.bd_io_device.specs.Devices.{over};
+ghost use Rattle.bd_io_device.specs.Devices.{TakesText, WriteFailsWithin, over};
 ghost use Rattle.bd_io_lines.specs.Lines.{text_lines};
 ghost use Rattle.bd_cli_scan.specs.Input.{ReadsInput, ReadsNoFurther};
-ghost use Rattle.bd_cli_scan.specs.Output.{error_line, no_memory, wrong_line, wrong_status};
+ghost use Rattle.bd_cli_scan.specs.Output.{error_line, wrong_line, wrong_status};
 ghost use Rattle.bd_cli_scan.specs.Run.{Prints, ReportsMessage};
-ghost use Rattle.bd_cli_files.specs.Pack.{Form, bad_line_text, line_fault_text, named, objects_packed, pack_run, pack_run_by, text_run};
+ghost use Rattle.bd_cli_files.specs.Pack.{Form, bad_line_text, byte_text, line_fault_text, named, objects_packed, pack_run, pack_run_by, text_run};
 ghost use Rattle.bd_cli_files.specs.inside.Pack.{ArePacked, IsTaken};
-ghost use Rattle.bd_cli_scan.specs.declared.output.Status.TheVariants.{Failed};
 
 use bd_cli_scan::Status;
 use bd_cli_scan::output::{
-    push_number, report_end, report_no_memory, report_read_fault, report_unwritten,
+    report_end, report_read_fault, report_unwritten, status_of, write_count, write_pair,
 };
-use bd_extjson_fault::JsonFaultKind;
+use bd_extjson_fault::{JsonFault, JsonFaultKind};
 use bd_extjson_pack::{LineFault, Packer};
-use bd_io_device::{Input, Output, ReadFault, write_all};
+use bd_io_device::{DeviceFault, Input, Output, ReadFault, write_all};
 use bd_io_lines::{find_newline, is_empty_line};
 use bd_value::{LONGEST_INPUT, NoMemory};
+use itoa::Buffer;
 use std::alloc::Global;
 
 /// After the number of documents.
@@ -72,7 +72,7 @@ pub fn pack_by<P: LinePacker + Drop, R: Input, O: Output, E: Output>(
 {
     let mut packing = Packing::new(alloc, packer);
     match pack_input(alloc, input, &mut packing) {
-        Ok(()) => write_packing(alloc, program, &packing, out, err),
+        Ok(()) => write_packing(program, &packing, out, err),
         Err(fault) => report_read_fault(program, fault, err),
     }
 }
@@ -127,7 +127,6 @@ fn pack_input<P: LinePacker, R: Input>(
 
 /// Writes the documents of the lines that were packed, and reports them.
 fn write_packing<P: LinePacker, O: Output, E: Output>(
-    alloc: Global,
     program: &str,
     packing: &Packing<P>,
     out: &mut O,
@@ -138,7 +137,7 @@ fn write_packing<P: LinePacker, O: Output, E: Output>(
         (over O.state out.old out.new) (over E.state err.old err.new) result }
 {
     match write_all(out, &packing.bytes) {
-        Ok(()) => report_packing(alloc, program, packing, err),
+        Ok(()) => report_packing(program, packing, err),
         Err(_) => report_unwritten(program, err),
     }
 }
@@ -239,59 +238,92 @@ impl<P: LinePacker> Packing<P> {
     }
 }
 
-/// Reports how lines were packed, after the bytes on standard output. Memory is taken only for the message of a bad line.
-fn report_packing<P, E: Output>(
-    alloc: Global,
-    program: &str,
-    packing: &Packing<P>,
-    err: &mut E,
-) -> Status
+/// Reports how lines were packed, after the bytes on standard output. It takes no memory.
+fn report_packing<P, E: Output>(program: &str, packing: &Packing<P>, err: &mut E) -> Status
     ensures { ReportsMessage (over E.state err.old err.new)
         (wrong_line program.now (option_map bad_line_text packing.now.bad)
         ++ (decimal packing.now.count ++ objects_packed))
-        (wrong_status (option_map bad_line_text packing.now.bad)) result
-        ⊎ ((bad : BadLine) × (packing.now.bad ≡ Some bad)
-        × ReportsMessage (over E.state err.old err.new)
-        (error_line program.now no_memory) Failed result) }
+        (wrong_status (option_map bad_line_text packing.now.bad)) result }
 {
-    match &packing.bad {
+    match packing.bad {
         None => report_end(program, None, packing.count, OBJECTS_PACKED, err),
-        Some(bad) => match bad_line_message(alloc, bad) {
-            Ok(message) => report_end(program, Some(&message), packing.count, OBJECTS_PACKED, err),
-            Err(_) => report_no_memory(program, err),
-        },
+        Some(bad) => status_of(write_end(program, bad, packing.count, err), Status::Failed),
     }
 }
 
-/// The message of a bad line.
-fn bad_line_message(alloc: Global, bad: &BadLine) -> Result<String, NoMemory>
-    ensures { IfOk result (λ s. string_bytes s ≡ bad_line_text bad.now) }
+/// Writes the line of a bad line, and how many documents were packed.
+#[tactic(auto, using(bd_cli_scan::proofs::OutputLemmas::taking))]
+fn write_end<E: Output>(
+    program: &str,
+    bad: BadLine,
+    count: u64,
+    err: &mut E,
+) -> Result<(), DeviceFault>
+    ensures ok { OnOk result (TakesText (over E.state err.old err.new)
+        (error_line program.now (bad_line_text bad) ++ (decimal count ++ objects_packed))) }
+    ensures err { OnErr result (WriteFailsWithin (over E.state err.old err.new)
+        (error_line program.now (bad_line_text bad) ++ (decimal count ++ objects_packed))) }
 {
-    let mut text = String::new(alloc);
-    text.push_str("line ")?;
-    push_number(bad.number, &mut text)?;
-    push_line_fault(&bad.fault, &mut text)?;
-    Ok(text)
+    write_bad_line(program, bad, err)?;
+    write_count(count, OBJECTS_PACKED, err)
 }
 
-/// Appends why a line is bad, after its number.
-fn push_line_fault(fault: &LineFault, text: &mut String) -> Result<(), NoMemory>
-    ensures { OnOk result (string_bytes text.new
-        ≡ string_bytes text.old ++ line_fault_text fault.now) }
+/// Writes the line of a bad line.
+#[tactic(auto, using(bd_cli_scan::proofs::OutputLemmas::taking))]
+fn write_bad_line<E: Output>(program: &str, bad: BadLine, err: &mut E) -> Result<(), DeviceFault>
+    ensures ok { OnOk result
+        (TakesText (over E.state err.old err.new) (error_line program.now (bad_line_text bad))) }
+    ensures err { OnErr result (WriteFailsWithin
+        (over E.state err.old err.new) (error_line program.now (bad_line_text bad))) }
+{
+    write_pair(program, ": ", err)?;
+    write_message(bad, err)?;
+    write_all(err, b"\n")
+}
+
+/// Writes which line is bad, and why.
+#[tactic(auto, using(bd_cli_scan::proofs::OutputLemmas::taking))]
+fn write_message<E: Output>(bad: BadLine, err: &mut E) -> Result<(), DeviceFault>
+    ensures ok { OnOk result (TakesText (over E.state err.old err.new) (bad_line_text bad)) }
+    ensures err { OnErr result
+        (WriteFailsWithin (over E.state err.old err.new) (bad_line_text bad)) }
+{
+    let mut buffer = Buffer::new();
+    write_all(err, b"line ")?;
+    write_all(err, buffer.format(bad.number).as_bytes())?;
+    write_line_fault(bad.fault, err)
+}
+
+/// Writes why a line is bad, after its number.
+#[tactic(auto, using(bd_cli_scan::proofs::OutputLemmas::taking))]
+fn write_line_fault<E: Output>(fault: LineFault, err: &mut E) -> Result<(), DeviceFault>
+    ensures ok { OnOk result (TakesText (over E.state err.old err.new) (line_fault_text fault)) }
+    ensures err { OnErr result
+        (WriteFailsWithin (over E.state err.old err.new) (line_fault_text fault)) }
 {
     match fault {
         LineFault::Unread(fault) => {
-            match fault.kind {
-                // The line as a whole is no document.
-                JsonFaultKind::NotADocument => {}
-                _ => {
-                    text.push_str(", byte ")?;
-                    push_number(fault.at, text)?;
-                }
-            }
-            text.push_str(": ")?;
-            text.push_str(fault.kind.words())
+            write_byte(fault, err)?;
+            write_pair(": ", fault.kind.words(), err)
         }
-        LineFault::TooLong => text.push_str(": document too long"),
+        LineFault::TooLong => write_all(err, b": document too long"),
+    }
+}
+
+/// Writes the byte of a fault, after the number of its line; nothing if the line as a whole is no document.
+#[tactic(auto, using(bd_cli_scan::proofs::OutputLemmas::taking, bd_io_device::proofs::DevicesLemmas::takes_none))]
+fn write_byte<E: Output>(fault: JsonFault, err: &mut E) -> Result<(), DeviceFault>
+    ensures ok { OnOk result (TakesText
+        (over E.state err.old err.new) (byte_text (codes ", byte ") fault.kind fault.at)) }
+    ensures err { OnErr result (WriteFailsWithin
+        (over E.state err.old err.new) (byte_text (codes ", byte ") fault.kind fault.at)) }
+{
+    match fault.kind {
+        JsonFaultKind::NotADocument => Ok(()),
+        _ => {
+            let mut buffer = Buffer::new();
+            write_all(err, b", byte ")?;
+            write_all(err, buffer.format(fault.at).as_bytes())
+        }
     }
 }
