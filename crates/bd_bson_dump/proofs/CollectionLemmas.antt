@@ -1,12 +1,12 @@
 -- The documents of a dump, one by one.
 use Rattle.std.proofs.Common.{◌≡◌, ◌≤◌, ◌<◌, ℕ, zero, suc, ◌+◌, ◌*◌, List, [], ◌∷◌, ◌++◌, length, take, drop, get_or, Option, Some, None, refl, sym, ap, ◌∙◌, subst}
 use Rattle.std.proofs.Common.{append_assoc, append-nil, arith, inl, inr, slice_get}
-use Rattle.std.proofs.lemmas.{List.take-append-drop, List.length-drop, List.length-take, List.length-append, List.take_at, Option.slice_get-get_or}
+use Rattle.std.proofs.lemmas.{List.take-append-drop, List.drop-drop, List.drop_at, List.length-drop, List.length-take, List.length-append, List.take_at, Option.slice_get-get_or}
 use Rattle.bd_value.specs.{Limits.longest_input, Tree.Tree, Tree.Doc, Tree.doc, Tree.fields_of, Tree.pairs_in, Tree.pairs_of-fields_of}
 use Rattle.bd_bson_check.specs.{Fault.Fault, Fault.ReportsFault, Dump.AreJoined, Dump.IsDump, Dump.frame_fault, Dump.IsNext}
-use Rattle.bd_bson_view.specs.{Spelling.IsDocument, Sound.Sound, Sound.meaning, Sound.meaning_is, declared.raw.RawDoc.RawDoc}
+use Rattle.bd_bson_view.specs.{Sizes.number_of, Spelling.IsDocument, Sound.Sound, Sound.meaning, Sound.meaning_is, declared.raw.RawDoc.RawDoc}
 use Rattle.bd_bson_dump.specs.{Starts.AreAt, Starts.AreAt-prop, Starts.documents_starting_at, Collection.documents, Collection.IsUnread, declared.collection.Dump.Dump}
-use Rattle.bd_bson_view.proofs.ValueAtLemmas.{reads_at}
+use Rattle.bd_bson_view.proofs.ValueAtLemmas.{framed_size, reads_at}
 use Rattle.bd_bson_check.proofs.DumpLemmas.{joined_append, joined_one, document_frame, frame_inside}
 use Rattle.bd_value.specs.declared.node.Kind.TheVariants as kinds
 use Rattle.bd_bson_check.specs.declared.fault.Fault as reported
@@ -102,27 +102,74 @@ module _ (bytes : List ℕ) where
   prefix_size : (d : Doc) (prefix : List ℕ) → IsDocument d prefix → 5 ≤ length prefix
   prefix_size d prefix is = (frame_inside (prefix ++ []) (length prefix) (document_frame d prefix [] is)).0
 
-  pub goes_on : (starts more : List ℕ) (at after : ℕ) (raw : RawDoc) → SoFar bytes starts at → IsNext bytes at (Some (raw, after)) → more ≡ starts ++ at ∷ [] → SoFar bytes more after
-  goes_on starts more at after raw s next is =
-      let d = pairs_in (meaning raw.sound) in
-      let size = prefix_size (pairs_in (meaning raw.sound)) next.0 next.1 in
-      let here = document_sound bytes at (pairs_in (meaning raw.sound)) next.0 (drop after bytes) next.1 next.2 in
-      let all = s.collected.0 in
+  -- one more document
+  grows : (starts more : List ℕ) (at after : ℕ) (d : Doc) (prefix : List ℕ) → SoFar bytes starts at → IsDocument d prefix → drop at bytes ≡ prefix ++ drop after bytes
+      → at + length prefix ≡ after → after ≤ length bytes → more ≡ starts ++ at ∷ [] → SoFar bytes more after
+  grows starts more at after d prefix s is_document splits size inside is =
+      let here = document_sound bytes at d prefix (drop after bytes) is_document splits in
       let same : documents_starting_at bytes (starts ++ at ∷ []) (are_at_more bytes starts at s.collected.0 here)
-      ≡ documents_starting_at bytes starts s.collected.0 ++ pairs_in (meaning raw.sound) ∷ [] =
+      ≡ documents_starting_at bytes starts s.collected.0 ++ d ∷ [] =
       documents_more bytes starts at s.collected.0 here ∙ ap (λ (x : Doc). documents_starting_at bytes starts s.collected.0 ++ x ∷ [])
-      (document_there bytes at (pairs_in (meaning raw.sound)) next.0 (drop after bytes) next.1 next.2 here) in
-      let joined : AreJoined (documents_starting_at bytes starts s.collected.0 ++ pairs_in (meaning raw.sound) ∷ []) (take after bytes) =
-      subst (AreJoined (documents_starting_at bytes starts s.collected.0 ++ pairs_in (meaning raw.sound) ∷ []))
-      (sym (taken_more next.0 at after s.inside next.4 next.2 next.3))
-      (joined_append (documents_starting_at bytes starts s.collected.0) (pairs_in (meaning raw.sound) ∷ []) (take at bytes) next.0 s.collected.1
-      (joined_one (pairs_in (meaning raw.sound)) next.0 next.1)) in
+      (document_there bytes at d prefix (drop after bytes) is_document splits here) in
+      let joined : AreJoined (documents_starting_at bytes starts s.collected.0 ++ d ∷ []) (take after bytes) =
+      subst (AreJoined (documents_starting_at bytes starts s.collected.0 ++ d ∷ []))
+      (sym (taken_more prefix at after s.inside inside splits size))
+      (joined_append (documents_starting_at bytes starts s.collected.0) (d ∷ []) (take at bytes) prefix s.collected.1
+      (joined_one d prefix is_document)) in
       record {
         collected = subst (λ (ss : List ℕ). Collected bytes ss after) (sym is)
             (are_at_more bytes starts at s.collected.0 here, subst (λ (ds : List Doc). AreJoined ds (take after bytes)) (sym same) joined);
-        inside = next.4;
-        few = let f = s.few in let n = next.3 in omega (arith, length-append starts (at ∷ []), ap (λ (ss : List ℕ). length ss) is);
+        inside = inside;
+        few = let f = s.few in let n = prefix_size d prefix is_document in
+            omega (arith, size, length-append starts (at ∷ []), ap (λ (ss : List ℕ). length ss) is);
       }
+
+  pub goes_on : (starts more : List ℕ) (at after : ℕ) (raw : RawDoc) → SoFar bytes starts at → IsNext bytes at (Some (raw, after)) → more ≡ starts ++ at ∷ [] → SoFar bytes more after
+  goes_on starts more at after raw s next is =
+      grows starts more at after (pairs_in (meaning raw.sound)) next.0 s next.1 next.2 next.3 next.4 is
+
+  -- ---- the documents from an offset on, by the lengths that they state
+
+  -- From this offset on there are documents.
+  pub record Rest (at : ℕ) : Type 0 where
+    pub documents : List Doc
+    pub joined : AreJoined documents (drop at bytes)
+
+  -- The first of them, and those after it.
+  pub record First (at : ℕ) : Type 0 where
+    pub document : Doc
+    pub prefix : List ℕ
+    pub is : IsDocument document prefix
+    pub splits : drop at bytes ≡ prefix ++ drop (at + length prefix) bytes
+    pub states : number_of (drop at bytes) ≡ length prefix
+    pub five : 5 ≤ length prefix
+    pub inside : at + length prefix ≤ length bytes
+    pub rest : Rest (at + length prefix)
+
+  first_of : (at : ℕ) → at < length bytes → (ds : List Doc) → AreJoined ds (drop at bytes) → First at
+  first_of at lt [] joined = absurd (omega (arith, length-drop at bytes, ap (λ (x : List ℕ). length x) joined))
+  first_of at lt (d ∷ ds) joined =
+      let after : drop (at + length joined.0) bytes ≡ joined.1 =
+      sym (drop-drop (length joined.0) at bytes) ∙ ap (drop (length joined.0)) joined.4 ∙ drop_at joined.0 joined.1 (length joined.0) refl in
+      let five = prefix_size d joined.0 joined.2 in
+      record {
+        document = d;
+        prefix = joined.0;
+        is = joined.2;
+        splits = joined.4 ∙ ap (λ x. joined.0 ++ x) (sym after);
+        states = ap number_of joined.4 ∙ framed_size joined.2.spells.0 joined.0 joined.1 joined.2.spells.2 joined.2.short;
+        five = five;
+        inside = omega (arith, lt, ap (λ (x : List ℕ). length x) joined.4, length-append joined.0 joined.1, length-drop at bytes);
+        rest = record { documents = ds; joined = subst (AreJoined ds) (sym after) joined.3 };
+      }
+
+  pub first : (at : ℕ) → at < length bytes → Rest at → First at
+  first at lt rest = first_of at lt rest.documents rest.joined
+
+  pub takes_first : (starts more : List ℕ) (at after : ℕ) → SoFar bytes starts at → (f : First at) → after ≡ at + length f.prefix → more ≡ starts ++ at ∷ []
+      → SoFar bytes more after × Rest after
+  takes_first starts more at after s f is pushed =
+      rw is (grows starts more at (at + length f.prefix) f.document f.prefix s f.is f.splits refl f.inside pushed, f.rest)
 
   pub later : (at after : ℕ) (raw : RawDoc) → IsNext bytes at (Some (raw, after)) → at + 5 ≤ after
   later at after raw next = let size = prefix_size (pairs_in (meaning raw.sound)) next.0 next.1 in let n = next.3 in omega arith

@@ -11,7 +11,7 @@
 //! ```
 //!
 //! - `collection`: `Dump`, the documents of a collection in their bytes.
-//! - `collecting`: `read_dump`, which reads one.
+//! - `collecting`: `read_dump`, which reads one, and `index_dump`, which takes one that was checked.
 //! - `laws`: what is found in each document of a dump.
 #![tactic(auto)]
 
@@ -19,6 +19,6 @@ mod collecting;
 mod collection;
 mod laws;
 
-pub use collecting::read_dump;
+pub use collecting::{index_dump, read_dump};
 pub use collection::Dump;
 pub use laws::{checks_as_the_scan, checks_in_turn};
