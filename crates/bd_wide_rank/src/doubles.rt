@@ -8,6 +8,7 @@ ghost use Rattle.bd_wide_rank.specs.Rank.{HaveSame, rank};
 ghost use Rattle.bd_wide_rank.specs.Key.{key_worth};
 ghost use Rattle.bd_wide_rank.specs.inside.Key.{IsKey};
 
+use crate::hints::Hints;
 use crate::position::Position;
 use bd_value::NoMemory;
 use std::alloc::Global;
@@ -16,6 +17,8 @@ use std::alloc::Global;
 #[derive(Drop)]
 pub(crate) struct Doubles {
     pub keys: Vec<u64>,
+    /// Where the keys are, once they are sorted.
+    hints: Hints,
     /// If there are this many, repeats are dropped before the next one.
     limit: usize,
     ghost are_keys: { All IsKey keys.items } by { Prim.hlevel props },
@@ -34,6 +37,7 @@ impl Doubles {
     {
         Doubles {
             keys: Vec::new(alloc),
+            hints: Hints::new(alloc),
             limit: LEAST_LIMIT,
         }
     }
@@ -47,20 +51,29 @@ impl Doubles {
             (key_worths self.old.keys.items)) }
     {
         if self.keys.len() >= self.limit {
-            self.sort();
+            self.drop_repeats();
         }
         self.keys.push(key)?;
         Ok(())
     }
 
-    /// Sorts the doubles, and drops repeats.
+    /// Sorts the doubles and drops repeats, so that each is found fast.
     pub(crate) fn sort(&mut self)
+        ensures same { HaveSame (key_worths self.new.keys.items) (key_worths self.old.keys.items) }
+        ensures rising { IsStrictlyIncreasing self.new.keys.items }
+    {
+        self.drop_repeats();
+        self.hints.renew(&self.keys);
+    }
+
+    /// Sorts the doubles, and drops repeats.
+    fn drop_repeats(&mut self)
         ensures same { HaveSame (key_worths self.new.keys.items) (key_worths self.old.keys.items) }
         ensures rising { IsStrictlyIncreasing self.new.keys.items }
     {
         self.keys.sort_unstable();
         self.keys.dedup();
-        self.limit = self.keys.len().saturating_mul(2).max(LEAST_LIMIT);
+        self.limit = self.keys.len().saturating_mul(4).max(LEAST_LIMIT);
     }
 
     /// The rank of a number among the doubles.
@@ -70,14 +83,26 @@ impl Doubles {
         ensures { result ≡ rank (key_worths self.now.keys.items) (position_worth position) }
     {
         match position {
-            Position::Double(key) => match self.keys.binary_search(&key) {
-                Ok(i) => 2 * i as u64 + 1,
-                Err(i) => 2 * i as u64,
+            Position::Double(key) => match self.hints.find(&self.keys, key) {
+                Some(i) => 2 * i as u64 + 1,
+                None => self.searched_rank(key),
             },
             Position::Between(number) => match self.keys.binary_search(&number.key) {
                 Ok(i) => 2 * i as u64 + 2,
                 Err(i) => 2 * i as u64,
             },
+        }
+    }
+
+    /// The rank of a double among these, by a search.
+    fn searched_rank(&self, key: u64) -> u64
+        requires rising { IsStrictlyIncreasing self.now.keys.items }
+        requires key { IsKey key }
+        ensures { result ≡ rank (key_worths self.now.keys.items) (key_worth key) }
+    {
+        match self.keys.binary_search(&key) {
+            Ok(i) => 2 * i as u64 + 1,
+            Err(i) => 2 * i as u64,
         }
     }
 }

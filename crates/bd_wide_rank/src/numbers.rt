@@ -14,8 +14,8 @@ use bd_value::NoMemory;
 use bd_wide_number::Number;
 use std::alloc::Global;
 
-/// Numbers on the way to a table. Repeats are dropped whenever there are twice as many as after the last time, so the memory is that
-/// of the distinct numbers: 8 bytes for one that a double equals and 32 for any other, and a few times that while it grows.
+/// Numbers on the way to a table. Repeats are dropped whenever there are four times as many as after the last time, so the memory is
+/// that of the distinct numbers: 16 bytes for one that a double equals and 32 for any other, and a few times that while it grows.
 #[derive(Drop)]
 pub struct Numbers {
     doubles: Doubles,

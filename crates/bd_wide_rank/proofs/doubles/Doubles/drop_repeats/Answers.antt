@@ -5,7 +5,7 @@ use Rattle.bd_wide_rank.specs.Key.{key_worth}
 use Rattle.bd_wide_rank.specs.Key.{key_worths}
 use Rattle.bd_wide_rank.proofs.RankLemmas.{same_moved, same_trans}
 use Rattle.bd_wide_rank.proofs.RowLemmas.{keys_once}
-use Rattle.bd_wide_rank.proofs.doubles.Doubles.sort.Goals as goal
+use Rattle.bd_wide_rank.proofs.doubles.Doubles.drop_repeats.Goals as goal
 
 pub returns-clause-same : goal.returns-clause-same
 returns-clause-same c =
