@@ -60,7 +60,7 @@ abbrev pub Completes : (List ℕ → Beyond) → (List ℕ → Type 0) → ℕ �
 Completes item Next start = (text : List ℕ) (stop : Stop) → item text ≡ Err stop → Completed (Gives item) (λ x. x) Next start text stop
 
 pub cut_past : (taken before : List ℕ) → CutsSurrogate before → CutsSurrogate (taken ++ before)
-cut_past taken before cut = (taken ++ cut.0, cut.1, ap (λ x. taken ++ x) cut.2 ∙ sym (append_assoc taken cut.0 cut.1), cut.3, cut.4)
+cut_past taken before cut = (taken ++ cut.0, cut.1, ap (λ x. taken ++ x) cut.2 ∙ sym (append_assoc taken cut.0 cut.1), cut.3)
 
 shape : (taken before added extra other : List ℕ) → (taken ++ before) ++ ((added ++ extra) ++ other) ≡ taken ++ (before ++ (added ++ (extra ++ other)))
 shape taken before added extra other = append_assoc taken before ((added ++ extra) ++ other) ∙ ap (λ x. taken ++ (before ++ x)) (append_assoc added extra other)

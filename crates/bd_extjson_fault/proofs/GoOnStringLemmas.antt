@@ -1,16 +1,16 @@
 -- How a string can go on before its fault.
-use Rattle.std.proofs.Common.{◌≡◌, ◌≤◌, ◌<◌, ◌+◌, ◌*◌, ◌==◌, ◌∙◌, ◌++◌, sym, refl, ◌||◌, ◌⊎◌, inl, inr, ℕ, zero, suc, Bool, true, false, List, [], ◌∷◌, length, drop, ap, Ok, Err, append-nil, length-append, le_refl, arith}
+use Rattle.std.proofs.Common.{◌≡◌, ◌≤◌, ◌<◌, ◌+◌, ◌*◌, ◌==◌, ◌∙◌, ◌++◌, sym, refl, ◌⊎◌, inl, inr, ℕ, zero, suc, Bool, true, false, List, [], ◌∷◌, length, drop, ap, Ok, Err, append_assoc, append-nil, length-append, le_refl, arith}
 use Rattle.std.specs.Prelude.{Result, codes, nat_lt, nat_le}
 use Rattle.std.specs.Char.{digit_value, is_digit}
 use Rattle.std.proofs.lemmas.{Bool.Decides.nat_tests}
 use Rattle.json.specs.Text.{is_high_surrogate, is_low_surrogate}
 use Rattle.bd_extjson_fault.specs.declared.skip.Stop.{Stop}
 use Rattle.bd_extjson_fault.specs.declared.skip.StopKind.TheVariants.{Syntax}
-use Rattle.bd_extjson_fault.specs.FaultPlace.{begins_as_surrogate, CutsSurrogate}
+use Rattle.bd_extjson_fault.specs.FaultPlace.{begins_ud, CutsSurrogate}
 use Rattle.bd_extjson_fault.specs.JsonSyntax.{Beyond, ◌>>=◌, syntax_at, begins, beyond_all, beyond_word, beyond_hex, beyond_unit, beyond_low, beyond_units, is_short_escape, beyond_escape, beyond_character, beyond_items, beyond_string, beyond_name}
 use Rattle.bd_extjson_fault.proofs.PlaceLemmas.{Gives, Always, stop_at, bind_ok, firm_piece, word_split, word_firm}
 use Rattle.bd_extjson_fault.proofs.PlaceStringLemmas.{Unit4, first, second, third, fourth, hex_of, Answered, same_number, character_piece, Items, items_on, items_close, is_quote, quoted, quoted_piece, colon, named}
-use Rattle.bd_extjson_fault.proofs.GoOnLemmas.{plain, plain_nil, Goes, Completed, Completes, onward, instead, starts_past, some_byte, begins_start, then_completes, white_completes, word_completes}
+use Rattle.bd_extjson_fault.proofs.GoOnLemmas.{plain, plain_nil, plain_append, Goes, Completed, Completes, onward, instead, starts_past, some_byte, begins_start, then_completes, white_completes, word_completes}
 
 -- ---- escapes
 
@@ -47,31 +47,43 @@ zero_digit : (other : List ℕ) → beyond_hex (48 ∷ other) ≡ Ok (0, other)
 unfolding beyond_hex
 zero_digit other = refl
 
-record Range (v : ℕ) : Type 0 where
-  from : 55296 ≤ v
-  to : v < 57344
+record Range (from to v : ℕ) : Type 0 where
+  least : 53248 + from * 256 ≤ v
+  below : v < 53248 + to * 256
+  some : to ≤ 16
 
-range_of : (v : ℕ) → is_high_surrogate v || is_low_surrogate v ≡ true → Range v
-range_of v e = record { from = grind (arith, nat_tests, e); to = grind (arith, nat_tests, e) }
+high_range : (v : ℕ) → is_high_surrogate v ≡ true → Range 8 12 v
+high_range v e = record { least = grind (arith, nat_tests, e); below = grind (arith, nat_tests, e); some = omega arith }
+
+low_range : (v : ℕ) → is_low_surrogate v ≡ true → Range 12 16 v
+low_range v e = record { least = grind (arith, nat_tests, e); below = grind (arith, nat_tests, e); some = omega arith }
 
 -- the first two digits of a surrogate
-lead : (a b va vb w v : ℕ) (more : List ℕ) → Value a va → Value b vb → w < 256 → v ≡ va * 4096 + vb * 256 + w
-    → is_high_surrogate v || is_low_surrogate v ≡ true → begins_as_surrogate (92 ∷ 117 ∷ a ∷ b ∷ more) ≡ true
-lead a b va vb w v more x y small is surrogate =
-    let r = range_of v surrogate in
-    let d : va ≡ 13 = omega (arith, x.small, y.small, small, is, r.from, r.to) in
-    let e : 8 ≤ vb = omega (arith, x.small, y.small, small, is, r.from, r.to, d) in
+lead : (a b va vb w v from to : ℕ) (more : List ℕ) → Value a va → Value b vb → w < 256 → v ≡ va * 4096 + vb * 256 + w → Range from to v
+    → begins_ud from to (92 ∷ 117 ∷ a ∷ b ∷ more) ≡ true
+lead a b va vb w v from to more x y small is r =
+    let d : va ≡ 13 = omega (arith, x.small, y.small, small, is, r.least, r.below, r.some) in
+    let e : from ≤ vb = omega (arith, small, is, r.least, d) in
+    let f : vb < to = omega (arith, is, r.below, d) in
     let p : (digit_value a == 13) ≡ true = rw (x.is ∙ d) refl in
-    let q : nat_le 8 (digit_value b) ≡ true = rw y.is (grind (arith, nat_tests, e)) in
-    let s : nat_lt (digit_value b) 16 ≡ true = rw y.is (grind (arith, nat_tests, y.small)) in
+    let q : nat_le from (digit_value b) ≡ true = rw y.is (grind (arith, nat_tests, e)) in
+    let s : nat_lt (digit_value b) to ≡ true = rw y.is (grind (arith, nat_tests, f)) in
     rw (p, q, s) refl
+
+-- an escape of a low surrogate
+abbrev low_escape : List ℕ
+low_escape = 92 ∷ 117 ∷ 100 ∷ 99 ∷ 48 ∷ 48 ∷ []
+
+low_unit : (other : List ℕ) → beyond_unit (92 ∷ 117 ∷ 100 ∷ 99 ∷ 48 ∷ 48 ∷ other) ≡ Ok (56320, other)
+unfolding beyond_unit beyond_word beyond_hex
+low_unit other = refl
 
 -- digits that are not all there
 finish : (x rest digits zeros : List ℕ) (v : ℕ) (stop : Stop) → x ≡ digits ++ rest → stop.remaining ≡ length rest → plain zeros ≡ true
     → ((other : List ℕ) → beyond_unit (92 ∷ 117 ∷ (digits ++ (zeros ++ other))) ≡ Ok (v, other))
-    → (is_high_surrogate v || is_low_surrogate v ≡ true → CutsSurrogate (92 ∷ 117 ∷ digits))
+    → (is_low_surrogate v ≡ true → CutsSurrogate (92 ∷ 117 ∷ digits))
     → Completed (Gives beyond_character) (λ x. x) Always 48 (92 ∷ 117 ∷ x) stop
-unfolding beyond_character beyond_escape beyond_units
+unfolding beyond_character beyond_escape beyond_units beyond_low plain
 finish x rest digits zeros v stop e remaining p unit cut = record {
   before = 92 ∷ 117 ∷ digits;
   rest = rest;
@@ -82,8 +94,13 @@ finish x rest digits zeros v stop e remaining p unit cut = record {
   where
     go : (h : Bool) → is_high_surrogate v ≡ h → (l : Bool) → is_low_surrogate v ≡ l
         → CutsSurrogate (92 ∷ 117 ∷ digits) ⊎ Goes (Gives beyond_character) (λ x. x) Always 48 (92 ∷ 117 ∷ x) (92 ∷ 117 ∷ digits)
-    go true h l low = inl (cut (rw h refl))
-    go false h true low = inl (cut (rw (h, low) refl))
+    go true h l low = inr (record {
+      added = zeros ++ low_escape;
+      plainly = plain_append zeros low_escape p refl;
+      starts = λ other next. inl refl;
+      passes = λ other next. rw (append_assoc zeros low_escape other, unit (92 ∷ 117 ∷ 100 ∷ 99 ∷ 48 ∷ 48 ∷ other), h, low_unit other) refl;
+    })
+    go false h true low = inl (cut low)
     go false h false low = inr (record {
       added = zeros;
       plainly = p;
@@ -95,8 +112,8 @@ no_digit : (x : List ℕ) (stop : Stop) → beyond_hex x ≡ Err stop → Comple
 unfolding beyond_unit beyond_word beyond_hex plain
 no_digit x stop e = finish x x [] (48 ∷ 48 ∷ 48 ∷ 48 ∷ []) 0 stop refl (hex_stop x stop e) refl (λ other. refl) (λ s. absurd cc)
 
-never_one : (va : ℕ) → va < 16 → is_high_surrogate (va * 4096 + 0 * 256 + 0 * 16 + 0) || is_low_surrogate (va * 4096 + 0 * 256 + 0 * 16 + 0) ≡ true → ⊥
-never_one va small s = let r = range_of (va * 4096 + 0 * 256 + 0 * 16 + 0) s in omega (arith, small, r.from, r.to)
+never_one : (va : ℕ) → va < 16 → is_low_surrogate (va * 4096 + 0 * 256 + 0 * 16 + 0) ≡ true → ⊥
+never_one va small s = let r = low_range (va * 4096 + 0 * 256 + 0 * 16 + 0) s in omega (arith, small, r.least, r.below)
 
 one_digit : (x : List ℕ) (a : Unit4) (stop : Stop) → beyond_hex x ≡ Ok a → beyond_hex a.1 ≡ Err stop
     → Completed (Gives beyond_character) (λ x. x) Always 48 (92 ∷ 117 ∷ x) stop
@@ -122,8 +139,11 @@ two_digits x a b stop ea eb e =
       [],
       92 ∷ 117 ∷ ha.byte ∷ hb.byte ∷ [],
       refl,
-      omega arith,
-      lead ha.byte hb.byte a.0 b.0 0 (a.0 * 4096 + b.0 * 256 + 0 * 16 + 0) [] va vb (omega arith) (omega arith) s,
+      inl (
+        lead ha.byte hb.byte a.0 b.0 0 (a.0 * 4096 + b.0 * 256 + 0 * 16 + 0) 12 16 [] va vb (omega arith) (omega arith)
+            (low_range (a.0 * 4096 + b.0 * 256 + 0 * 16 + 0) s),
+        omega arith,
+      ),
     ))
 
 three_digits : (x : List ℕ) (a b c : Unit4) (stop : Stop) → beyond_hex x ≡ Ok a → beyond_hex a.1 ≡ Ok b → beyond_hex b.1 ≡ Ok c → beyond_hex c.1 ≡ Err stop
@@ -143,8 +163,11 @@ three_digits x a b c stop ea eb ec e =
       [],
       92 ∷ 117 ∷ ha.byte ∷ hb.byte ∷ hc.byte ∷ [],
       refl,
-      omega arith,
-      lead ha.byte hb.byte a.0 b.0 (c.0 * 16) (a.0 * 4096 + b.0 * 256 + c.0 * 16 + 0) (hc.byte ∷ []) va vb (omega (arith, vc.small)) (omega arith) s,
+      inl (
+        lead ha.byte hb.byte a.0 b.0 (c.0 * 16) (a.0 * 4096 + b.0 * 256 + c.0 * 16 + 0) 12 16 (hc.byte ∷ []) va vb (omega (arith, vc.small)) (omega arith)
+            (low_range (a.0 * 4096 + b.0 * 256 + c.0 * 16 + 0) s),
+        omega arith,
+      ),
     ))
 
 after_third : (x : List ℕ) (a b c : Unit4) (stop : Stop) → beyond_hex x ≡ Ok a → beyond_hex a.1 ≡ Ok b → beyond_hex b.1 ≡ Ok c → (d : Result Unit4 Stop) → beyond_hex c.1 ≡ d
@@ -170,7 +193,7 @@ digits_complete x stop (Err s) ea e = let same : s ≡ stop = cc in no_digit x s
 -- the bytes of an escape of a surrogate
 record Four (x : List ℕ) (u : Unit4) : Type 0 where
   size : length x ≡ 4 + length u.1
-  begun : is_high_surrogate u.0 || is_low_surrogate u.0 ≡ true → begins_as_surrogate (92 ∷ 117 ∷ x) ≡ true
+  begun : is_high_surrogate u.0 ≡ true → begins_ud 8 12 (92 ∷ 117 ∷ x) ≡ true
 
 four_of : (x : List ℕ) (u : Unit4) → (beyond_hex x >>= first) ≡ Ok u → Four x u
 four_of x u e =
@@ -194,8 +217,9 @@ four_of x u e =
     let long : length x ≡ length (ha.byte ∷ hb.byte ∷ hc.byte ∷ hd.byte ∷ u.1) = ap length split in
     record {
       size = omega (arith, long);
-      begun = λ s. ap (λ t. begins_as_surrogate (92 ∷ 117 ∷ t)) split
-          ∙ lead ha.byte hb.byte (a.0).0 (b.0).0 ((c.0).0 * 16 + (d.0).0) u.0 (hc.byte ∷ hd.byte ∷ u.1) va vb (omega (arith, vc.small, vd.small)) (omega (arith, number)) s;
+      begun = λ s. ap (λ t. begins_ud 8 12 (92 ∷ 117 ∷ t)) split
+          ∙ lead ha.byte hb.byte (a.0).0 (b.0).0 ((c.0).0 * 16 + (d.0).0) u.0 8 12 (hc.byte ∷ hd.byte ∷ u.1) va vb (omega (arith, vc.small, vd.small)) (omega (arith, number))
+          (high_range u.0 s);
     }
 
 -- how much of an escape there is before its end
@@ -282,7 +306,7 @@ second_complete x u stop is high (Err s) given e = go (s.remaining == 0) refl e
           rest = [];
           split = ap (λ t. 92 ∷ 117 ∷ t) (sym (append-nil x));
           remaining = ap (λ s. s.remaining) (sym same) ∙ last;
-          goes = inl ([], 92 ∷ 117 ∷ x, refl, omega (arith, four.size, short, last), four.begun (rw high refl));
+          goes = inl ([], 92 ∷ 117 ∷ x, refl, inr (four.begun high, omega (arith, four.size), omega (arith, four.size, short, last)));
         }
     go false end e = replaced (92 ∷ 117 ∷ x) stop (rw end at e)
 

@@ -30,7 +30,7 @@ pub fn fault_is_not_early()
 {}
 
 /// Until its fault a text that is not JSON could continue: the bytes before it begin some text that is JSON. Only those that
-/// end within an escape of a surrogate may begin none.
+/// end within an escape of a surrogate may begin none, since a lone one is told at its backslash.
 #[tactic(auto, using(crate::proofs::FaultPlaceLemmas::could_until_there))]
 pub fn fault_is_not_late()
     ensures { (text : List ℕ) → CouldUntilThere text }
