@@ -150,12 +150,13 @@ mutual
   holds_stays : (c : Codes) → KeepOrder c → (o : Operator) → OperatorNeeds c o → (es : List End) → Each (EndIsOf c) es
       → holds (renumber_operator c o) (map (option_map (renumber c)) es) ≡ holds o es
   holds_stays c up (equals v) a es b = equal_stays c up es b v
-  holds_stays c up (differs v) a es b = ap not (holds_stays c up (equals v) a es b)
+  holds_stays c up (differs v) a es b = ap not (equal_stays c up es b v)
   holds_stays c up (compares o v) a es b =
       any_candidate_stays c (λ e. is_related o (renumber c v) (value_or_null e)) (λ e. is_related o v (value_or_null e))
       (λ e d. ap (is_related o (renumber c v)) (null_stays c e) ∙ related_stays c up o v (value_or_null e) (null_is_of c e d)) es b
   holds_stays c up (is_in vs) a es b = any_map (any_equal (map (re c) es)) (any_equal es) (renumber c) Anything (λ v d. equal_stays c up es b v) vs (each_anything vs)
-  holds_stays c up (is_not_in vs) a es b = ap not (holds_stays c up (is_in vs) a es b)
+  holds_stays c up (is_not_in vs) a es b =
+      ap not (any_map (any_equal (map (re c) es)) (any_equal es) (renumber c) Anything (λ v d. equal_stays c up es b v) vs (each_anything vs))
   holds_stays c up (has_all vs) a es b =
       ap₂ ◌&&◌ (nonempty_stays c vs) (all_map (any_equal (map (re c) es)) (any_equal es) (renumber c) Anything (λ v d. equal_stays c up es b v) vs (each_anything vs))
   holds_stays c up (has_type ks) a es b =
@@ -177,10 +178,11 @@ mutual
 
   accepts_stays : (c : Codes) → KeepOrder c → (o : Operator) → OperatorNeeds c o → (t : Tree) → IsOf c t → accepts (renumber_operator c o) (renumber c t) ≡ accepts o t
   accepts_stays c up (equals v) a t b = equals_stay c up t v b
-  accepts_stays c up (differs v) a t b = ap not (accepts_stays c up (equals v) a t b)
+  accepts_stays c up (differs v) a t b = ap not (equals_stay c up t v b)
   accepts_stays c up (compares o v) a t b = related_stays c up o v t b
   accepts_stays c up (is_in vs) a t b = any_map (equal (renumber c t)) (equal t) (renumber c) Anything (λ v d. equals_stay c up t v b) vs (each_anything vs)
-  accepts_stays c up (is_not_in vs) a t b = ap not (accepts_stays c up (is_in vs) a t b)
+  accepts_stays c up (is_not_in vs) a t b =
+      ap not (any_map (equal (renumber c t)) (equal t) (renumber c) Anything (λ v d. equals_stay c up t v b) vs (each_anything vs))
   accepts_stays c up (has_all vs) a t b =
       ap₂ ◌&&◌ (nonempty_stays c vs) (all_map (equal (renumber c t)) (equal t) (renumber c) Anything (λ v d. equals_stay c up t v b) vs (each_anything vs))
   accepts_stays c up (has_type ks) a t b = type_stays c ks a t
