@@ -1,5 +1,5 @@
 -- What is written for a document by value is spelled by the document with codes.
-use Rattle.std.proofs.Common.{◌≡◌, ℕ, ℤ, zero, suc, ◌+◌, ◌-◌, ◌≤◌, List, [], ◌∷◌, ◌++◌, length, take, drop, Option, Some, refl, sym, ap, ap₂, ◌∙◌, subst, arith, append_assoc, length-append, take_at, drop_at, Bool, true, false, nat_lt, max, FitsSigned, Result, Ok, Err, OnOk, inl, inr}
+use Rattle.std.proofs.Common.{◌≡◌, ℕ, ℤ, zero, suc, ◌+◌, ◌-◌, ◌≤◌, List, [], ◌∷◌, ◌++◌, length, take, drop, Option, Some, refl, sym, ap, ap₂, ◌∙◌, subst, arith, append_assoc, length-append, take_at, drop_at, Bool, false, nat_lt, max, FitsSigned, Result, Ok, Err, OnOk, inl, inr}
 use Rattle.std.specs.Int.{w32, cast_unsigned}
 use Rattle.std.proofs.lemmas.{Bool.Decides.nat_tests}
 use Rattle.std.proofs.Math.Nat.{le-max_left, le-max_right}

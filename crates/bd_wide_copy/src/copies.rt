@@ -1,6 +1,6 @@
 //! The documents of a dump in turn: their copies, and their numbers.
 
-ghost use Rattle.std.specs.Prelude.{◌≡◌, ◌≤◌, ◌++◌, ℤ, FitsSigned, IfSome, List, OnErr, OnOk, length, map};
+ghost use Rattle.std.specs.Prelude.{◌≡◌, ◌≤◌, ◌++◌, ℤ, FitsSigned, IfSome, OnErr, OnOk, length, map};
 ghost use Rattle.std.specs.Int.{w32};
 ghost use Rattle.std.specs.Io.{StartsWith};
 ghost use Rattle.bd_wide.specs.Rewritten.{Adds};
@@ -8,7 +8,6 @@ ghost use Rattle.bd_wide_copy.specs.inside.Copies.{AreCopies};
 ghost use Rattle.bd_wide_copy.specs.Numbers.{AreNumbersOf};
 ghost use Rattle.bd_wide_copy.specs.inside.Added.{AddsWorths};
 ghost use Rattle.bd_wide_copy.specs.inside.Starts.{frame_size as frame_size_of};
-ghost use Rattle.bd_wide_number.specs.declared.number.Number as numbers_of;
 ghost use Rattle.bd_wide_rank.specs.{Rank.HaveSame, Table.collected, Worth.worth_of};
 
 use crate::copy::{Codes, write_copy};
@@ -59,23 +58,29 @@ pub(crate) fn write_copies<C: Codes>(
 pub(crate) fn add_all(alloc: Global, bytes: &[u8], numbers: &mut Numbers) -> Result<(), NoMemory>
     ensures { OnOk result (AddsWorths bytes.now (collected numbers.old) (collected numbers.new)) }
 {
+    let mut all = Vec::new(alloc);
     let mut rest = bytes;
     while let Some(size) = frame_size(rest) {
         let (document, after) = rest.split_at(size);
-        add_document(alloc, document, numbers)?;
+        add_document(document, &mut all, numbers)?;
         rest = after;
     }
     Ok(())
 }
 
-/// Adds the numbers of a document.
-fn add_document(alloc: Global, document: &[u8], numbers: &mut Numbers) -> Result<(), NoMemory>
-    ensures { OnOk result ((all : List numbers_of.Number) × AreNumbersOf document.now all
-        × HaveSame (collected numbers.new) (map worth_of all ++ collected numbers.old)) }
+/// Adds the numbers of a document, which replace those in `all`.
+fn add_document(
+    document: &[u8],
+    all: &mut Vec<Number>,
+    numbers: &mut Numbers,
+) -> Result<(), NoMemory>
+    ensures { OnOk result (AreNumbersOf document.now all.new.items
+        × HaveSame (collected numbers.new) (map worth_of all.new.items ++ collected numbers.old)) }
 {
-    let mut all = Vec::new(alloc);
-    collect_numbers(document, &mut all)?;
-    push_all(&all, numbers)
+    all.clear();
+    collect_numbers(document, all)?;
+    push_all(all, numbers)?;
+    Ok(())
 }
 
 /// Adds numbers.

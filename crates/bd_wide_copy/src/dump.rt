@@ -76,6 +76,7 @@ impl WideDump {
             (C.code_of codes.now) (bytes_of self.now)) out.old.items out.new.items) }
         ensures err { OnErr result (out.new.items ≡ out.old.items) }
     {
+        out.reserve(self.bytes.len())?;
         let before = out.len();
         let written = write_copies(codes, &self.bytes, out);
         if written.is_err() {
