@@ -45,6 +45,14 @@ pub copied_documents : (bytes new : List ℕ) (table : List ℤ) (es ds : List D
     → AreJoinedBy (valued worth) ds bytes → es ≡ coded_documents (int32_of (code table)) ds
 copied_documents bytes new table es ds dump copied are = (scan_once es (coded_documents (int32_of (code table)) ds) None None new dump.0 (copied ds are).0.0).0
 
+-- a copy is a dump
+pub copy_is_dump : (bytes : List ℕ) (table : List ℤ) (start new x : List ℕ) → AreDocuments bytes → IsCopyOfDump worth (code table) bytes x → new ≡ start ++ x
+    → start ≡ [] → (ds : List Doc) × IsDump ds new
+copy_is_dump bytes table start new x documents copied added empty =
+    let (ds, are) = documents worth in
+    let is : x ≡ new = ap (λ (s : List ℕ). s ++ x) (sym empty) ∙ sym added in
+    (coded_documents (int32_of (code table)) ds, subst (λ (y : List ℕ). IsDump (coded_documents (int32_of (code table)) ds) y) is (copied ds are).0)
+
 -- the copy that was written and read
 pub copies_dump : (bytes : List ℕ) (table : List ℤ) (copy : Dump) (start new x : List ℕ) → IsCopyOfDump worth (code table) bytes x → new ≡ start ++ x
     → start ≡ [] → IsDump (documents copy) new → bytes_of_dump copy ≡ new → CopiesDump bytes table copy

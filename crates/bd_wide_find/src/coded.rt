@@ -14,7 +14,7 @@ ghost use Rattle.bd_wide_find.specs.inside.Fault.{ReportsAs};
 ghost use Rattle.bd_wide_find.specs.inside.Question.{SearchesBy, SearchesCopy};
 
 use crate::types::takes_types_alike;
-use bd_bson_dump::{Dump, read_dump};
+use bd_bson_dump::{Dump, index_dump};
 use bd_cli_args::FindOptions;
 use bd_cli_find::{Search, SearchFault, json_message, read_search_with};
 use bd_cursor_request::Request;
@@ -23,7 +23,7 @@ use bd_value::NoMemory;
 use bd_wide_copy::WideDump;
 use bd_wide_query::{WideQuery, code_query, exclude_nan};
 use bd_wide_rank::Table;
-use std::alloc::{AllocError, Global};
+use std::alloc::Global;
 
 /// A search, and the copy that is searched.
 #[derive(Drop)]
@@ -141,9 +141,6 @@ pub fn coded_copy(alloc: Global, dump: &WideDump, table: &Table) -> Result<Dump,
     table.codes_fit();
     let mut bytes = Vec::new(alloc);
     dump.write_copy(table, &mut bytes)?;
-    match read_dump(alloc, bytes) {
-        Ok(copy) => Ok(copy),
-        // A copy has no fault: memory ran out.
-        Err(_) => Err(AllocError),
-    }
+    let copy = index_dump(alloc, bytes)?;
+    Ok(copy)
 }

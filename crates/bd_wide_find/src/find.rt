@@ -18,7 +18,7 @@ use crate::coded::{Coded, code};
 use crate::load::load_wide;
 use crate::printer::{NamedBytes, WideBytes, WidePrinter};
 use crate::question::{Question, read_question};
-use bd_bson_dump::{Dump, read_dump};
+use bd_bson_dump::{Dump, index_dump};
 use bd_cli_args::{FindOptions, Form};
 use bd_cli_files::load::report_load_fault;
 use bd_cli_find::{Search, SearchFault, print_count, print_found, report_refused};
@@ -116,7 +116,7 @@ fn answer_plain<O: Output, E: Output>(
         (over O.state out.old out.new) (over E.state err.old err.new) result }
 {
     let (bytes, starts) = dump.into_parts();
-    match read_dump(alloc, bytes) {
+    match index_dump(alloc, bytes) {
         Ok(dump) => print_form(
             alloc,
             program,

@@ -1,6 +1,7 @@
 use Rattle.std.proofs.Common.{◌≡◌, ◌∙◌, List, None, ap, inl, inr, length, refl, subst, sym}
 use Rattle.std.specs.Prelude.{ℕ}
-use Rattle.bd_bson_check.specs.Dump.{AreJoined}
+use Rattle.bd_value.specs.Tree.{Doc}
+use Rattle.bd_bson_check.specs.Dump.{AreJoined, IsDump}
 use Rattle.bd_bson_check.proofs.DumpLemmas.{scan_once}
 use Rattle.bd_bson_dump.specs.Collection.{bytes_of as bytes_of_dump, documents}
 use Rattle.bd_cursor_request.specs.Request.{request_view}
@@ -13,6 +14,9 @@ use Rattle.bd_wide_copy.proofs.StartsLemmas.{plain_count}
 use Rattle.bd_wide_find.specs.Find.{printing_in}
 use Rattle.bd_wide_find.proofs.FindLemmas.{few_documents, found_in_dump}
 use Rattle.bd_wide_find.proofs.find.answer_plain.Goals as goal
+
+pub index_dump-requires : goal.index_dump-requires
+index_dump-requires g c = subst (λ (b : List ℕ). (ds : List Doc) × IsDump ds b) (sym c.into_parts-bytes.ensures.bytes) c.requires.plain
 
 pub print_form-requires-clause-within_limit : goal.print_form-requires-clause-within_limit
 print_form-requires-clause-within_limit g c = few_documents (documents c.in-Ok.dump) c.into_parts-bytes.result.0.items c.in-Ok.ensures.dump
