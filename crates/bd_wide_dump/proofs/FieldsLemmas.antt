@@ -100,11 +100,11 @@ array_added paths name fs tree old mid new head named is headed put added =
     subst P (sym is) (element_added name (array inner) (framed added.0) old new named spelled
     (added.2 ∙ ap (λ (y : List ℕ). y ++ framed added.0) (put ∙ ap (λ (y : List ℕ). old ++ y) headed) ∙ framed_parts old 4 name (framed added.0)))
 
-document_type : (type : ElementType) → array_type type ≡ Some false → type ≡ Kept kinds.Doc
+pub document_type : (type : ElementType) → array_type type ≡ Some false → type ≡ Kept kinds.Doc
 document_type (Kept kinds.Doc) h = refl
 document_type _ h = absurd cc
 
-array_type_is : (type : ElementType) → array_type type ≡ Some true → type ≡ Kept kinds.Array
+pub array_type_is : (type : ElementType) → array_type type ≡ Some true → type ≡ Kept kinds.Array
 array_type_is (Kept kinds.Array) h = refl
 array_type_is _ h = absurd cc
 

@@ -7,3 +7,10 @@ pub mod PlainLemmas
 pub mod OneLemmas
 pub mod FieldsLemmas
 pub mod RequestedLemmas
+pub mod GoingLemmas
+pub mod CsvLemmas
+pub mod PrettyLemmas
+pub mod FollowLemmas
+pub mod PlainTextLemmas
+pub mod RowLemmas
+pub mod ReadBackLemmas

@@ -20,12 +20,13 @@ use Rattle.bd_bson_view.specs.Unique.{number_after, no_holder, framed_after, str
 use Rattle.bd_bson_view.specs.Sound.{Sound, meaning, meaning_is}
 use Rattle.bd_bson_view.proofs.ValueAtLemmas.{text_reads}
 use Rattle.bd_bson_check.proofs.FirstFaultLemmas.{IsBytes-take}
-use Rattle.bd_wide_text.specs.{Decimal128.decimal128_text}
+use Rattle.bd_wide_text.specs.{Double.IsDoubleText, Decimal128.decimal128_text}
 use Rattle.bd_wide_dump.specs.Raw.{raw}
 use Rattle.bd_wide_dump.specs.declared.format.JsonFormat.{JsonFormat}
-use Rattle.bd_wide_dump.specs.WideText.{AreBytes, IsDoubleIn, IsKindText, IsNumberText, IsRawText, IsTextOf, is_bare}
+use Rattle.bd_wide_dump.specs.WideText.{AreBytes, IsDoubleIn, IsKindText, IsNumberText, IsRawBy, IsRawText, IsTextOf, is_bare}
+use Rattle.bd_wide_dump.specs.Plain.{IsPlainNumber, IsPlainText}
 use Rattle.bd_wide_dump.specs.Values.{values_in}
-use Rattle.bd_wide_dump.specs.inside.Begins.{HasElements, IsNumberOf, IsTyped, a_number, a_scalar, a_document, an_array, a_code, HasValue, AppendsBy, AppendsText}
+use Rattle.bd_wide_dump.specs.inside.Begins.{HasElements, is_whole, IsNumberOf, IsTyped, a_number, a_scalar, a_document, an_array, a_code, HasValue, AppendsBy, AppendsText}
 
 -- ---- numbers
 
@@ -79,7 +80,7 @@ narrow format as_int32 content after text s h =
 narrow format as_int64 content after text s h =
     subst (λ (n : ℕ). IsKindText format (trees.int64 (cast_signed w64 n)) text) (long_same content after (omega (arith, s))) h
 
-content_bytes : (bytes content after : List ℕ) → AreBytes bytes → bytes ≡ content ++ after → AreBytes content
+pub content_bytes : (bytes content after : List ℕ) → AreBytes bytes → bytes ≡ content ++ after → AreBytes content
 content_bytes bytes content after fits is =
     subst AreBytes (ap (take (length content)) is ∙ take_at content after (length content) refl) (IsBytes-take (length content) bytes fits)
 
@@ -97,6 +98,30 @@ wide_text format k bytes tree wide fits v text h =
     let mine : IsNumberText format k v.content text = narrow format k v.content v.after text (content_size k v.content tree n) (subst P v.splits h) in
     let Q : NumberKind → Type 0 = λ j. IsNumberText format j v.content text in
     raw_text format (number_type k) v.content text tree n (content_bytes bytes v.content v.after fits v.splits) (subst Q (same_number k n.kind n.typed) mine)
+
+-- the same of its plain text
+plain_narrow : (k : NumberKind) (content after text : List ℕ) → IsWide k → length content ≡ number_size k → IsPlainNumber k (content ++ after) text → IsPlainNumber k content text
+plain_narrow as_double content after text wide s h = subst (λ (n : ℕ). IsDoubleText n text) (long_same content after (omega (arith, s))) h
+plain_narrow as_decimal128 content after text wide s h = h ∙ ap₂ decimal128_text (long_same content after (omega (arith, s)))
+    (ap long_of (drop_content 8 content after (omega (arith, s))) ∙ long_same (drop 8 content) after (omega (arith, s, length-drop 8 content)))
+plain_narrow as_int32 content after text wide s h = absurd (wide kinds.Int32 refl)
+plain_narrow as_int64 content after text wide s h = absurd (wide kinds.Int64 refl)
+
+pub plain_wide : (k : NumberKind) (bytes : List ℕ) (tree : Tree) → IsWide k → AreBytes bytes → HasValue (number_type k) bytes tree → (text : List ℕ) → IsPlainNumber k bytes text → IsPlainText tree text
+plain_wide k bytes tree wide fits v text h =
+    let n = of_number k v.content tree wide v.spells in
+    let P : List ℕ → Type 0 = λ x. IsPlainNumber k x text in
+    let mine : IsPlainNumber k v.content text = plain_narrow k v.content v.after text wide (content_size k v.content tree n) (subst P v.splits h) in
+    let Q : NumberKind → Type 0 = λ j. IsPlainNumber j v.content text in
+    let r : IsRawBy IsPlainNumber n.z text = record {
+      kind = n.kind;
+      value = v.content;
+      fits = content_bytes bytes v.content v.after fits v.splits;
+      sized = n.sized;
+      is = n.worth;
+      written = subst Q (same_number k n.kind n.typed) mine;
+    } in
+    subst (λ (t : Tree). IsPlainText t text) (sym n.is) r
 
 pub wide_appended : {E : Type 0} (format : JsonFormat) (k : NumberKind) (type : ElementType) (bytes old : List ℕ) (end : ℕ) (new : List ℕ) (tree : Tree) (r : Result ℕ E) → IsWide k
     → type ≡ number_type k → AreBytes bytes → HasValue type bytes tree → IfOk r (λ e. AppendsBy (λ text. IsNumberText format k bytes text) old end e new)
@@ -132,6 +157,7 @@ pub record Plain (kind : Kind) (content : List ℕ) (tree : Tree) : Type 0 where
   pub kinded : scalar_kind scalar ≡ kind
   pub spells : IsScalar scalar content
   pub text_is : (format : JsonFormat) (text : List ℕ) → IsKindText format scalar text → IsTextOf format tree text
+  pub same : is_whole kind ≡ false → tree ≡ leaf scalar
 
 number_plain : (kind : Kind) (content : List ℕ) (tree : Tree) (k : NumberKind) (z : ℤ) → tree ≡ leaf (trees.int64 z) → Kept kind ≡ number_type k → length content ≡ number_size k
     → raw (number_type k) content ≡ z → AreBytes content → Plain kind content tree
@@ -145,6 +171,7 @@ number_plain kind content tree as_int32 z is typed size worth fits =
       text_is = λ format text h.
           let r : IsRawText format z text = record { kind = as_int32; value = content; fits = fits; sized = size; is = worth; written = h } in
           subst (λ (t : Tree). IsTextOf format t text) (sym is) r;
+      same = λ h. let e : kind ≡ kinds.Int32 = cc in let f : true ≡ false = sym (ap is_whole e) ∙ h in absurd cc;
     }
 number_plain kind content tree as_int64 z is typed size worth fits =
     record {
@@ -154,6 +181,7 @@ number_plain kind content tree as_int64 z is typed size worth fits =
       text_is = λ format text h.
           let r : IsRawText format z text = record { kind = as_int64; value = content; fits = fits; sized = size; is = worth; written = h } in
           subst (λ (t : Tree). IsTextOf format t text) (sym is) r;
+      same = λ h. let e : kind ≡ kinds.Int64 = cc in let f : true ≡ false = sym (ap is_whole e) ∙ h in absurd cc;
     }
 
 plain_there : (kind : Kind) (content : List ℕ) (tree : Tree) → (kind ≡ kinds.Doc → ⊥) → (kind ≡ kinds.Array → ⊥) → (kind ≡ kinds.CodeScope → ⊥) → AreBytes content → IsTyped (Kept kind) content tree
@@ -164,6 +192,7 @@ plain_there kind content tree d a c fits (a_scalar s) = record {
   kinded = cc (s.typed);
   spells = s.spells;
   text_is = λ format text h. subst (λ (t : Tree). IsTextOf format t text) (sym s.is) (s.text_is format text h);
+  same = λ h. s.is;
 }
 plain_there kind content tree d a c fits (a_document x) = absurd (d (cc (x.typed)))
 plain_there kind content tree d a c fits (an_array x) = absurd (a (cc (x.typed)))

@@ -49,3 +49,13 @@ with_id no_id paths = let named = list_any (leads id_path) paths in
 -- the fields that a text requests by paths with commas between them, and `_id`, unless it is left out; None if the text is refused
 abbrev pub fields_named : Bool → List ℕ → Option (List Names)
 fields_named no_id text = option_and_then (with_id no_id) (paths_in (slice_split (λ c. c == 44) text))
+
+-- ---- the columns that a text requests
+
+-- these paths; None if one leads to another
+abbrev pub apart : List Names → Option (List Names)
+apart paths = if clash paths then None else Some paths
+
+-- the columns that a text requests by paths with commas between them; None if the text is refused
+abbrev pub columns_named : List ℕ → Option (List Names)
+columns_named text = option_and_then apart (paths_in (slice_split (λ c. c == 44) text))

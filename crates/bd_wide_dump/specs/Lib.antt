@@ -1,4 +1,8 @@
+pub mod Csv
+pub mod CsvRows
 pub mod Fields
+pub mod Plain
+pub mod Pretty
 pub mod Projected
 pub mod ProjectedRows
 pub mod Raw

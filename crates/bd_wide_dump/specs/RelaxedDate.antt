@@ -33,9 +33,13 @@ seconds_text ms = 84 ∷ (two (ms / 3_600_000) ++ 58 ∷ (two (ms / 60_000 % 60)
 abbrev pub time_text : ℕ → List ℕ
 time_text ms = seconds_text ms ++ fraction_text (ms % 1000)
 
--- a day and the milliseconds of the day: {"$date":"2012-12-24T12:15:30.501Z"}
+-- RFC 3339, `date-time`, in UTC: a day and the milliseconds of the day, 2012-12-24T12:15:30.501Z
+abbrev pub instant_text : Date → ℕ → List ℕ
+instant_text day ms = day_text day ++ (time_text ms ++ 90 ∷ [])
+
+-- the same in its wrapper: {"$date":"2012-12-24T12:15:30.501Z"}
 abbrev pub dated_text : Date → ℕ → List ℕ
-dated_text day ms = codes "{\"$date\":\"" ++ (day_text day ++ (time_text ms ++ codes "Z\"}"))
+dated_text day ms = codes "{\"$date\":\"" ++ (instant_text day ms ++ codes "\"}")
 
 -- whether a time is in the years 1970 to 9999, by the milliseconds since 1970 began
 abbrev pub is_dated : ℤ → Bool

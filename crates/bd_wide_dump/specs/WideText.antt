@@ -51,14 +51,18 @@ IsNumberText format as_double value text =
     IsDoubleIn (is_bare format (of_bits binary64 (long_of value))) (long_of value) text
 IsNumberText format as_decimal128 value text = text ≡ decimal_text value
 
--- The text is that of the number with this type and these bits.
-pub record IsRawText (format : JsonFormat) (z : ℤ) (text : List ℕ) : Type 0 where
+-- The text is that of the number with this type and these bits, as a format writes numbers of these bytes.
+pub record IsRawBy (Written : NumberKind → List ℕ → List ℕ → Type 0) (z : ℤ) (text : List ℕ) : Type 0 where
   pub kind : NumberKind
   pub value : List ℕ
   pub fits : AreBytes value
   pub sized : length value ≡ number_size kind
   pub is : raw (number_type kind) value ≡ z
-  pub written : IsNumberText format kind value text
+  pub written : Written kind value text
+
+-- The same in Extended JSON.
+abbrev pub IsRawText : JsonFormat → ℤ → List ℕ → Type 0
+IsRawText format = IsRawBy (IsNumberText format)
 
 -- The text is that of a scalar in a document of all types, in which each number is its type and its bits.
 abbrev pub IsScalarText : JsonFormat → Scalar → List ℕ → Type 0

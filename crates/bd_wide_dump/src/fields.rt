@@ -155,7 +155,7 @@ fn append_inside(
 }
 
 /// Whether a type is that of arrays, if it is that of arrays or of documents.
-fn array_type(typed: ElementType) -> Option<bool>
+pub(crate) fn array_type(typed: ElementType) -> Option<bool>
     ensures { result ≡ array_type typed }
 {
     match typed {

@@ -16,28 +16,40 @@
 //! - `line`: `append_wide`, the text of a document after what a buffer has, and `WideTextBuffer`, the buffer of a line for one
 //!   document after the other.
 //! - `fields`: `append_projected` and `FieldsBuffer`, the same for the requested fields of a document alone: `specs/Projected.antt`.
-//! - `requested`: `read_fields`, the fields that a text requests: `specs/Fields.antt`.
+//! - `requested`: `read_fields` and `read_columns`, the fields that a text requests: `specs/Fields.antt`.
+//! - `csv_row`: `append_csv_header`, `append_csv_row` and `CsvBuffer`, rows of CSV: `specs/Csv.antt`. RFC 4180 is as the kit's crate
+//!   `csv` defines it.
+//! - `follow`: the value that a path leads to; `plain`: its text in a row: `specs/Plain.antt`.
+//! - `pretty`: `append_pretty`, a text of JSON on many lines: `specs/Pretty.antt`.
 //! - `element`: the next element of a document, read without a check.
 //! - `format`: `JsonFormat`, canonical or relaxed.
 //! - `number`: doubles and decimal128.
 //! - `relaxed`: the other scalars, of which whole numbers and dates differ between the formats.
-//! - `laws`: different numbers differ; bytes are at most one document; a date has one text in relaxed form; documents of the nineteen kinds are printed as
-//!   `bd_extjson_text` prints them.
+//! - `laws`: different numbers differ; bytes are at most one document; a date has one text in relaxed form; a text on many lines has
+//!   more white space alone; documents of the nineteen kinds are printed as `bd_extjson_text` prints them.
 #![tactic(auto)]
 
+mod csv_row;
 mod element;
 mod fields;
+mod follow;
 mod format;
 mod laws;
 mod line;
 mod number;
+mod plain;
+mod pretty;
 mod relaxed;
 mod requested;
 
+pub use csv_row::{CsvBuffer, append_csv_header, append_csv_row};
 pub use fields::{FieldsBuffer, append_projected};
 pub use format::JsonFormat;
 pub use laws::{
-    numbers_differ, one_date_text, one_wide_document, plain_lines, projections_as_worked,
+    csv_rows_as_worked, csv_rows_read_back, numbers_differ, one_date_text, one_wide_document,
+    only_white_space_is_more, paths_as_worked, plain_lines, pretty_texts_as_worked,
+    projections_as_worked,
 };
 pub use line::{WideTextBuffer, append_wide};
-pub use requested::read_fields;
+pub use pretty::append_pretty;
+pub use requested::{read_columns, read_fields};

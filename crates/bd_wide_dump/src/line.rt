@@ -126,7 +126,7 @@ fn append_items(
 /// Appends the text of the value of that type at an offset. There is space for a short one.
 #[cycle(wide)]
 #[inline(always)]
-fn append_value(
+pub(crate) fn append_value(
     format: JsonFormat,
     typed: ElementType,
     bytes: &[u8],

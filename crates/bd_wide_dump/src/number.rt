@@ -12,7 +12,7 @@ use bd_extjson_text::{End, append_few};
 use bd_wide_text::{write_decimal128, write_double};
 
 /// The first eight bytes as a number.
-fn long(bytes: &[u8]) -> u64
+pub(crate) fn long(bytes: &[u8]) -> u64
     requires { 8 ≤ length bytes.now }
     ensures { result ≡ long_of bytes.now }
 {
@@ -64,7 +64,7 @@ pub(crate) fn append_double(
 }
 
 /// Appends a double without a wrapper.
-fn append_digits(bits: u64, out: &mut Vec<u8>, end: usize) -> End
+pub(crate) fn append_digits(bits: u64, out: &mut Vec<u8>, end: usize) -> End
     requires { end ≤ length out.old.items }
     ensures text { IfOk result (λ e.
         AppendsBy (λ text. IsDoubleIn true bits text) out.old.items end e out.new.items) }

@@ -6,7 +6,7 @@ ghost use Rattle.bd_value.specs.Tree as trees;
 ghost use Rattle.bd_value.specs.Tree.{leaf};
 ghost use Rattle.bd_bson_view.specs.Raw.{value_tree};
 ghost use Rattle.bd_extjson_text.specs.Buffer.{Appends};
-ghost use Rattle.bd_wide_dump.specs.RelaxedDate.{IsDatedText, dated_text, day_text, fraction_text, is_dated, seconds_text, time_text, two};
+ghost use Rattle.bd_wide_dump.specs.RelaxedDate.{IsDatedText, dated_text, day_text, fraction_text, instant_text, is_dated, seconds_text, time_text, two};
 ghost use Rattle.bd_wide_dump.specs.WideText.{IsKindText};
 ghost use Rattle.bd_wide_dump.specs.declared.format.JsonFormat.TheVariants.{Relaxed};
 ghost use Rattle.bd_wide_dump.specs.inside.Begins.{AppendsBy};
@@ -87,10 +87,10 @@ fn append_whole(n: i64, out: &mut Vec<u8>, end: usize) -> End
 const LAST: i64 = 253_402_300_800_000;
 
 /// The milliseconds of a day.
-const DAY: u64 = 86_400_000;
+pub(crate) const DAY: u64 = 86_400_000;
 
 /// Whether a time is in the years 1970 to 9999.
-fn is_dated(milliseconds: i64) -> bool
+pub(crate) fn is_dated(milliseconds: i64) -> bool
     ensures { result ≡ is_dated milliseconds }
 {
     0 <= milliseconds && milliseconds < LAST
@@ -109,15 +109,29 @@ fn append_dated(milliseconds: u64, out: &mut Vec<u8>, end: usize) -> End
     append_instant(day, (milliseconds % DAY) as u32, out, end)
 }
 
-/// Appends a day of the years 0 to 9999, and the time of the day.
+/// Appends a day of the years 0 to 9999, and the time of the day, in the wrapper of a date.
 fn append_instant(day: Date, milliseconds: u32, out: &mut Vec<u8>, end: usize) -> End
     requires { (milliseconds < 86_400_000) × (end ≤ length out.old.items) }
     ensures { Appends out.old.items end result out.new.items (dated_text day milliseconds) }
 {
     let at = append_few(b"{\"$date\":\"", out, end)?;
-    let at = append_day(day, out, at)?;
+    let at = append_plain_instant(day, milliseconds, out, at)?;
+    append_few(b"\"}", out, at)
+}
+
+/// The same without the wrapper.
+pub(crate) fn append_plain_instant(
+    day: Date,
+    milliseconds: u32,
+    out: &mut Vec<u8>,
+    end: usize,
+) -> End
+    requires { (milliseconds < 86_400_000) × (end ≤ length out.old.items) }
+    ensures { Appends out.old.items end result out.new.items (instant_text day milliseconds) }
+{
+    let at = append_day(day, out, end)?;
     let at = append_time(milliseconds, out, at)?;
-    append_few(b"Z\"}", out, at)
+    append_few(b"Z", out, at)
 }
 
 /// Two decimal digits.

@@ -1,11 +1,11 @@
 //! The fields that a text requests.
 
-ghost use Rattle.std.specs.Prelude.{◌≡◌, ◌==◌, IfOk, MatchOption, None, Ok, Some, map, option_map};
+ghost use Rattle.std.specs.Prelude.{◌≡◌, ◌==◌, IfOk, IfSome, MatchOption, None, Ok, Some, map, option_map};
 ghost use Rattle.std.specs.{List.list_any, List.slice_split};
 ghost use Rattle.bd_path.specs.Path.{component_names, path_of};
-ghost use Rattle.bd_path.specs.PathNames.{names_of};
+ghost use Rattle.bd_path.specs.PathNames.{names_of, path_text};
 ghost use Rattle.bd_path.specs.declared.path.PathFault.{PathFault as path_fault};
-ghost use Rattle.bd_wide_dump.specs.Fields.{clash, fields_named, id_path, leads, meet, paths_in, requested, with_id};
+ghost use Rattle.bd_wide_dump.specs.Fields.{clash, columns_named, fields_named, id_path, leads, meet, paths_in, requested, with_id};
 
 use bd_path::{Component, Path, PathFault};
 use bd_value::NoMemory;
@@ -24,6 +24,24 @@ pub fn read_fields(alloc: Global, text: &str, no_id: bool) -> Result<Option<Vec<
     }
 }
 
+/// The paths to the columns that a text requests, with commas between them, in its order. None if one of them is no path, or if one
+/// leads to another. It fails only if memory runs out.
+pub fn read_columns(alloc: Global, text: &str) -> Result<Option<Vec<Path>>, NoMemory>
+    ensures paths { IfOk result (λ columns.
+        option_map (λ v. requested v.items) columns ≡ columns_named text.now) }
+    ensures texts { IfOk result (λ columns. IfSome columns (λ v.
+        map path_text v.items ≡ slice_split (λ c. c == 44) text.now)) }
+{
+    let texts = split_text(alloc, text)?;
+    let Some(paths) = read_paths(alloc, &texts)? else {
+        return Ok(None);
+    };
+    if clash(&paths) {
+        return Ok(None);
+    }
+    Ok(Some(paths))
+}
+
 /// The texts between the commas of a text. It fails only if memory runs out.
 fn split_text(alloc: Global, text: &str) -> Result<Vec<&str>, NoMemory>
     ensures { IfOk result (λ v.
@@ -34,8 +52,10 @@ fn split_text(alloc: Global, text: &str) -> Result<Vec<&str>, NoMemory>
 
 /// The paths in these texts; None if one of the texts is no path.
 fn read_paths(alloc: Global, texts: &[&str]) -> Result<Option<Vec<Path>>, NoMemory>
-    ensures { IfOk result (λ paths. option_map (λ v.
+    ensures paths { IfOk result (λ paths. option_map (λ v.
         requested v.items) paths ≡ paths_in (map (λ text. text.now) texts.now)) }
+    ensures texts { IfOk result (λ paths. IfSome paths (λ v.
+        map path_text v.items ≡ map (λ text. text.now) texts.now)) }
 {
     let mut paths = Vec::new(alloc);
     let mut rest = texts;
@@ -51,9 +71,10 @@ fn read_paths(alloc: Global, texts: &[&str]) -> Result<Option<Vec<Path>>, NoMemo
 
 /// The path in a text, if it is one.
 fn read_path(alloc: Global, text: &str) -> Result<Option<Path>, NoMemory>
-    ensures { IfOk result (λ path. MatchOption path
+    ensures path { IfOk result (λ path. MatchOption path
         ((fault : path_fault) × (path_of text.now ≡ Err fault)) (λ p.
         path_of text.now ≡ Ok (names_of p))) }
+    ensures text { IfOk result (λ path. IfSome path (λ p. path_text p ≡ text.now)) }
 {
     match Path::parse(alloc, text) {
         Ok(path) => Ok(Some(path)),

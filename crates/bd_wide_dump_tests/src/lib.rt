@@ -2,6 +2,8 @@
 #![tactic(auto)]
 
 #[cfg(test)]
+mod csv_rows;
+#[cfg(test)]
 mod fields;
 #[cfg(test)]
 mod lines;

@@ -1,0 +1,13 @@
+use Rattle.std.proofs.Common.{◌+◌, ◌≤◌, length}
+use Rattle.bd_wide_dump.proofs.GoingLemmas.{Going}
+use Rattle.bd_wide_dump.specs.Pretty.{indented, laid_out}
+use Rattle.bd_wide_dump.proofs.pretty.append_pretty.Given as goal
+
+abbrev pub invariant-loop-rest : goal.invariant-loop-rest
+invariant-loop-rest l = record {
+  going : Going l.fn.buffer.items l.end (indented l.text) l.buffer.items l.at (laid_out l.place l.level l.before l.rest);
+  level : l.level + length l.rest ≤ length l.text;
+}
+
+abbrev pub decreases-loop-rest : goal.decreases-loop-rest
+decreases-loop-rest l = length l.rest
