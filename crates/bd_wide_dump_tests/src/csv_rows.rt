@@ -88,9 +88,22 @@ fn nested(rt: HostRuntime) -> Result<(), Fail> {
     row_is(
         &rt,
         rt.alloc(),
-        "d,a,d.y,a.1.x,a.2,a.3,a.x,a.1.none,r",
+        "d,a,r",
         bytes,
-        b"\"{\"\"x\"\":1,\"\"y\"\":2.0}\",\"[7,{\"\"x\"\":1,\"\"y\"\":2.0},\"\"z\"\"]\",2.0,1,z,,,,\"{\"\"$regularExpression\"\":{\"\"pattern\"\":\"\"^a\"\",\"\"options\"\":\"\"i\"\"}}\"\n",
+        b"\"{\"\"x\"\":1,\"\"y\"\":2.0}\",\"[7,{\"\"x\"\":1,\"\"y\"\":2.0},\"\"z\"\"]\",\"{\"\"$regularExpression\"\":{\"\"pattern\"\":\"\"^a\"\",\"\"options\"\":\"\"i\"\"}}\"\n",
+    )
+}
+
+#[test]
+fn paths(rt: HostRuntime) -> Result<(), Fail> {
+    let bytes =
+        b"`\0\0\0\x03d\0\x17\0\0\0\x10x\0\x01\0\0\0\x01y\0\0\0\0\0\0\0\0@\0\x04a\0/\0\0\0\x100\0\x07\0\0\0\x031\0\x17\0\0\0\x10x\0\x01\0\0\0\x01y\0\0\0\0\0\0\0\0@\0\x022\0\x02\0\0\0z\0\0\x0br\0^a\0i\0\x10d\0\t\0\0\0\0";
+    row_is(
+        &rt,
+        rt.alloc(),
+        "d.y,a.1.x,a.2,a.3,a.x,a.1.none",
+        bytes,
+        b"2.0,1,z,,,\n",
     )
 }
 
