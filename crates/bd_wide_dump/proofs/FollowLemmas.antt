@@ -1,14 +1,12 @@
 -- The value that a path leads to.
-use Rattle.std.proofs.Common.{◌≡◌, ℕ, zero, suc, ◌+◌, ◌-◌, ◌<◌, ◌≤◌, min, Bool, true, false, List, [], ◌∷◌, ◌++◌, inl, inr, length, drop, get_or, Option, Some, None, refl, sym, ap, subst, ◌∙◌, arith}
+use Rattle.std.proofs.Common.{◌≡◌, ℕ, zero, suc, ◌+◌, ◌-◌, ◌<◌, ◌≤◌, min, Bool, true, false, List, [], ◌∷◌, inl, inr, length, drop, get_or, Option, Some, None, refl, sym, ap, subst, ◌∙◌, arith}
 use Rattle.std.specs.Prelude.{if◌then◌else◌, option_map, option_and_then, string_bytes}
 use Rattle.std.specs.{Str.bytes_eq}
 use Rattle.std.proofs.lemmas.List.{length-append, length-drop}
 use Rattle.std.proofs.lemmas.Bool.{cases_lt}
 use Rattle.bd_value.specs.{Limits.longest_document}
-use Rattle.bd_value.specs.declared.node.Kind.TheVariants as kinds
-use Rattle.bd_value.specs.Tree.{Tree, leaf, doc, array, Items, no_items, item, Fields, no_fields, field}
+use Rattle.bd_value.specs.Tree.{Tree, doc, array, Items, no_items, item, Fields, no_fields, field}
 use Rattle.bd_bson_view.specs.declared.raw_parts.ElementType.{ElementType}
-use Rattle.bd_bson_view.specs.declared.raw_parts.ElementType.TheVariants.{Kept}
 use Rattle.bd_bson_view.specs.Spelling.{AreFieldsBy, valued, written_typed}
 use Rattle.bd_path.specs.{Path.component_names, Reach.Names, Reach.index_of, Reach.bounded_index}
 use Rattle.bd_path.specs.declared.component.Component.{Component}

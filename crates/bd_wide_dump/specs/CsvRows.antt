@@ -2,7 +2,7 @@
 use Rattle.std.specs.Prelude.{ℕ, List, [], ◌∷◌, codes, Option, Some, None}
 use Rattle.bd_value.specs.Tree.{Tree, Doc}
 use Rattle.bd_path.specs.Reach.{Names}
-use Rattle.bd_wide_dump.specs.ProjectedRows.{int, word, document, elements, journal, mixed, scoped}
+use Rattle.bd_wide_dump.specs.ProjectedRows.{int, word, document, journal, mixed, scoped}
 
 -- a document, a path, and the value that it leads to
 abbrev pub path_rows : List (Doc × Names × Option Tree)

@@ -4,7 +4,7 @@ use Rattle.jiff_core.specs.declared.civil.date.Date.{Date}
 use Rattle.jiff_core.specs.Date.{epoch_day}
 use Rattle.bd_value.specs.Tree.{Tree, leaf, date}
 use Rattle.bd_value.specs.Tree as trees
-use Rattle.bd_bson_view.specs.Spelling.{NumberKind, as_double, as_int32, as_int64, as_decimal128}
+use Rattle.bd_bson_view.specs.Spelling.{NumberKind, as_double, as_decimal128}
 use Rattle.bd_bson_view.specs.Sizes.{long_of}
 use Rattle.bd_extjson_text.specs.Text.{hex_text, scalar_text}
 use Rattle.bd_wide_text.specs.{Double.IsDoubleText, Decimal128.decimal128_text}

@@ -1,5 +1,5 @@
 -- A text of JSON on many lines, with a tab for each bracket that is open: as Go's `json.Indent` and mongoexport's `--pretty` lay it out.
-use Rattle.std.specs.Prelude.{ℕ, ◌+◌, ◌-◌, ◌==◌, ◌||◌, ◌&&◌, List, [], ◌∷◌, ◌++◌, Bool, true, false, if◌then◌else◌, replicate}
+use Rattle.std.specs.Prelude.{ℕ, ◌+◌, ◌-◌, ◌==◌, ◌||◌, List, [], ◌∷◌, ◌++◌, Bool, if◌then◌else◌, replicate}
 use Rattle.bd_wide_dump.specs.declared.pretty.Place.{Place}
 use Rattle.bd_wide_dump.specs.declared.pretty.Place.TheVariants.{Outside, Inside, Escape}
 

@@ -1,6 +1,6 @@
-use Rattle.std.proofs.Common.{◌∷◌, [], ◌++◌, ◌∙◌, List, ℕ, subst, length, arith}
+use Rattle.std.proofs.Common.{◌∷◌, [], List, ℕ, subst, arith}
 use Rattle.std.proofs.lemmas.List.{nil_from_length}
-use Rattle.csv.specs.Writing.{default_writer, escaped, quoted}
+use Rattle.csv.specs.Writing.{default_writer, quoted}
 use Rattle.bd_extjson_text.proofs.BufferLemmas.{failed}
 use Rattle.bd_wide_dump.proofs.GoingLemmas as g
 use Rattle.bd_wide_dump.proofs.CsvLemmas.{escaped_step, escaped_end}

@@ -1,9 +1,7 @@
-use Rattle.std.proofs.Common.{ap, sym, subst, ◌∙◌, [], Some, None, refl}
-use Rattle.bd_value.specs.Tree.{doc, fields_of, Doc}
-use Rattle.bd_bson_view.specs.Spelling.{IsDocumentBy, valued}
+use Rattle.std.proofs.Common.{subst, [], Some, None, refl}
+use Rattle.bd_value.specs.Tree.{doc, fields_of}
 use Rattle.bd_path.specs.{Path.component_names, PathNames.names_of, Reach.Names}
-use Rattle.bd_wide_dump.specs.declared.follow.Found.{Found}
-use Rattle.bd_wide_dump.specs.{Csv.follow, Raw.raw}
+use Rattle.bd_wide_dump.specs.{Csv.follow}
 use Rattle.bd_wide_dump.specs.inside.Finds.{Finds}
 use Rattle.bd_wide_dump.proofs.RowLemmas as w
 use Rattle.bd_wide_dump.proofs.csv_row.write_cell.Goals as goal

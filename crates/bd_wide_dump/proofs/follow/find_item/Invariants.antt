@@ -1,4 +1,4 @@
-use Rattle.std.proofs.Common.{◌-◌, ◌≤◌, length}
+use Rattle.std.proofs.Common.{◌-◌, length}
 use Rattle.bd_wide_dump.proofs.FollowLemmas.{ItemGoes}
 use Rattle.bd_wide_dump.proofs.follow.find_item.Given as goal
 

@@ -1,4 +1,4 @@
-use Rattle.std.proofs.Common.{◌≡◌, ℕ, Bool, List, rules, sym, subst, ◌∙◌}
+use Rattle.std.proofs.Common.{◌≡◌, ℕ, Bool, rules, sym, subst}
 use Rattle.std.specs.Prelude.{true, unsigned_abs}
 use Rattle.bd_wide_dump.specs.Plain.{IsInstantText, IsPlainDate}
 use Rattle.bd_wide_dump.specs.RelaxedDate.{is_dated}
