@@ -1,4 +1,4 @@
-use Rattle.std.proofs.Common.{◌∷◌, replicate}
+use Rattle.std.proofs.Common.{replicate}
 use Rattle.bd_wide_dump.proofs.GoingLemmas.{Going}
 use Rattle.bd_wide_dump.specs.Pretty.{line_end}
 use Rattle.bd_wide_dump.proofs.pretty.append_line_end.Given as goal

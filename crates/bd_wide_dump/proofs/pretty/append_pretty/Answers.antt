@@ -1,8 +1,7 @@
-use Rattle.std.proofs.Common.{List, ℕ, ◌+◌, ◌++◌, length, sym, ap, ap₂, subst, ◌∙◌, arith, slice_index_or}
+use Rattle.std.proofs.Common.{List, ℕ, ◌++◌, length, sym, ap, ap₂, subst, ◌∙◌, arith, slice_index_or}
 use Rattle.bd_extjson_text.proofs.BufferLemmas.{failed}
-use Rattle.bd_wide_dump.specs.Pretty.{indented, laid_byte, laid_out, next_place, open_after}
+use Rattle.bd_wide_dump.specs.Pretty.{indented, laid_byte, laid_out}
 use Rattle.bd_wide_dump.specs.declared.pretty.Place.{Place}
-use Rattle.bd_wide_dump.specs.declared.pretty.Place.TheVariants.{Outside}
 use Rattle.bd_wide_dump.proofs.GoingLemmas as g
 use Rattle.bd_wide_dump.proofs.PrettyLemmas.{begins, laid_step, open_bound}
 use Rattle.bd_wide_dump.proofs.pretty.append_pretty.Goals as goal
