@@ -14,7 +14,7 @@ use Rattle.bd_wide_order.specs.Renumber.{Codes, under, KeepOrder, DocumentsAreOf
 use Rattle.bd_wide_order.proofs.MatchLemmas.{match_stays}
 use Rattle.bd_wide_order.proofs.PageLemmas.{one_answer}
 use Rattle.bd_wide_order.proofs.ReachLemmas.{sorts_stay}
-use Rattle.bd_wide_order.specs.Ranks.{TypesAlike, table_codes}
+use Rattle.bd_wide_order.specs.Ranks.{table_codes}
 use Rattle.bd_wide_order.proofs.RankLemmas.{all_read_alike, filter_needs, ranks_keep_order}
 
 module _ (c : Codes) where
@@ -73,9 +73,9 @@ pub answers_stay : (c : Codes) → KeepOrder c → (r : Request) → RequestNeed
     → HaveOneAnswer (query_to new (renumber_documents c ds) (renumber_request c text r)) (query_to bytes ds r)
 answers_stay c up r needs ds are bytes new text = requests_stay c up r needs ds (λ p. is_of c ds p (recursion_from_All (λ d. IsOf c (doc (fields_of d))) ds are)) bytes new text
 
--- each path reads alike, so a request needs only types that are alike
-pub ranked_stay : (table : List ℤ) (r : Request) → TypesAlike r.filter → (ds : List Doc) → DocumentsAreOf (table_codes table) ds → (bytes new text : List ℕ)
+-- each path reads alike, and types stay, so a request needs no more
+pub ranked_stay : (table : List ℤ) (r : Request) (ds : List Doc) → DocumentsAreOf (table_codes table) ds → (bytes new text : List ℕ)
     → HaveOneAnswer (query_to new (renumber_documents (table_codes table) ds) (renumber_request (table_codes table) text r)) (query_to bytes ds r)
-ranked_stay table r alike ds are bytes new text =
+ranked_stay table r ds are bytes new text =
     answers_stay (table_codes table) (ranks_keep_order table) r
-    (filter_needs table r.filter alike, λ k d l. all_read_alike table (slice_index_or r.sorts k d).path) ds are bytes new text
+    (filter_needs table r.filter, λ k d l. all_read_alike table (slice_index_or r.sorts k d).path) ds are bytes new text

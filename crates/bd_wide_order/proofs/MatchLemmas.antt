@@ -16,7 +16,7 @@ use Rattle.bd_query_filter.specs.FilterMatch.{matches, all_match, some_match, ho
 use Rattle.bd_query_filter.specs.declared.operand.Relation.{Relation}
 use Rattle.bd_wide_order.specs.Renumber.{Codes, under, scope_name, KeepOrder, IsOf, ItemsAreOf, FieldsAreOf, renumber}
 use Rattle.bd_wide_order.specs.Renumber.{renumber_filter, renumber_filters, renumber_operator, renumber_operators}
-use Rattle.bd_wide_order.specs.Renumber.{TakeNumbersAlike, FilterNeeds, FiltersNeed, OperatorNeeds, OperatorsNeed}
+use Rattle.bd_wide_order.specs.Renumber.{whole, FilterNeeds, FiltersNeed, OperatorNeeds, OperatorsNeed}
 use Rattle.bd_wide_order.proofs.OrderLemmas.{order_stays, classes_stay, equals_stay}
 use Rattle.bd_wide_order.proofs.ReachLemmas.{EndIsOf, any_map, document_stays, ends_are_of, list_is_of, list_stays, reach_stays}
 
@@ -33,12 +33,12 @@ each_anything : (vs : List Tree) → Each Anything vs
 each_anything [] = tt
 each_anything (v ∷ vs) = (tt, each_anything vs)
 
-type_stays : (c : Codes) (ks : List Kind) → TakeNumbersAlike ks → (t : Tree) → is_of_type ks (renumber c t) ≡ is_of_type ks t
-type_stays c ks both (doc fs) = refl
-type_stays c ks both (array ts) = refl
-type_stays c ks both (code_scope s fs) = refl
-type_stays c ks both (leaf (int32 n)) = sym both
-type_stays c ks both (leaf _) = refl
+type_stays : (c : Codes) (ks : List Kind) → IsTrue (c []).narrow → (t : Tree) → is_of_type ks (renumber c t) ≡ is_of_type ks t
+type_stays c ks stays (doc fs) = refl
+type_stays c ks stays (array ts) = refl
+type_stays c ks stays (code_scope s fs) = refl
+type_stays c ks stays (leaf (int32 n)) = ap (λ narrow. is_of_type ks (leaf (whole narrow ((c []).becomes n)))) stays
+type_stays c ks stays (leaf _) = refl
 
 nonempty_stays : (c : Codes) (vs : List Tree) → is_nonempty (map (renumber c) vs) ≡ is_nonempty vs
 nonempty_stays c [] = refl

@@ -1,12 +1,12 @@
 -- The order of values depends on numbers only by their order at each path.
 use Rattle.std.proofs.Common.{◌≡◌, List, [], ◌∷◌, refl, sym, ap, ap₂, ◌∙◌, arith, ℕ, Ordering, Less, Equal, Greater, nat_cmp}
-use Rattle.std.specs.Prelude.{IsTrue, ℤ, ◌<ℤ◌, ◌≤ℤ◌}
+use Rattle.std.specs.Prelude.{Bool, true, false, IsTrue, ℤ, ◌<ℤ◌, ◌≤ℤ◌}
 use Rattle.std.specs.Ordering.{int_cmp, ordering_then, is_eq}
 use Rattle.std.proofs.lemmas.{Int.ints, Int.by_lt_z, Map.Lookups.exact_bytes}
 use Rattle.bd_value.specs.Tree as trees
 use Rattle.bd_value.specs.Tree.{Scalar, int32, int64, Tree, leaf, doc, array, code_scope, Items, no_items, item, Fields, no_fields, field}
 use Rattle.bd_value.specs.Order.{class_of, class_rank, bytes_cmp, class_cmp, cmp, equal, fields_cmp, items_cmp, pair_cmp, rank_cmp, same_class_cmp, by_bytes}
-use Rattle.bd_wide_order.specs.Renumber.{Code, Codes, under, scope_name, KeepsOrder, KeepOrder, ScalarIsOf, IsOf, ItemsAreOf, FieldsAreOf}
+use Rattle.bd_wide_order.specs.Renumber.{Code, Codes, whole, under, scope_name, KeepsOrder, KeepOrder, ScalarIsOf, IsOf, ItemsAreOf, FieldsAreOf}
 use Rattle.bd_wide_order.specs.Renumber.{renumber, renumber_scalar, renumber_items, renumber_fields}
 
 -- ---- numbers
@@ -31,6 +31,11 @@ within Equal Less r s h = refl
 within Equal Greater r s h = refl
 within Equal Equal r s h = h refl
 
+-- what is so of an int32 and of an int64 is so of the number, whichever it is
+pub of_whole : (So : Scalar → Type 0) (narrow : Bool) (n : ℤ) → So (int32 n) → So (int64 n) → So (whole narrow n)
+of_whole So true n p q = p
+of_whole So false n p q = q
+
 module _ (c : Code) (up : KeepsOrder c) where
   numbers : (m n : ℤ) → IsTrue (c.occurs m) → int_cmp (c.becomes m) (c.becomes n) ≡ int_cmp m n
   numbers m n p = by_lt_z m n
@@ -43,40 +48,51 @@ module _ (c : Code) (up : KeepsOrder c) where
   two : (m n : ℤ) → IsTrue (c.occurs m) → cmp (leaf (int64 (c.becomes m))) (leaf (int64 (c.becomes n))) ≡ cmp (leaf (int64 m)) (leaf (int64 n))
   two m n p = ap (λ o. ordering_then o (ordering_then Equal (ordering_then Equal Equal))) (numbers m n p)
 
+  -- the same, if the second was an int32
+  second : (m n : ℤ) → IsTrue (c.occurs m) → cmp (leaf (int64 (c.becomes m))) (leaf (whole c.narrow (c.becomes n))) ≡ cmp (leaf (int64 m)) (leaf (int64 n))
+  second m n p = of_whole (λ s. cmp (leaf (int64 (c.becomes m))) (leaf s) ≡ cmp (leaf (int64 m)) (leaf (int64 n))) c.narrow (c.becomes n) (two m n p) (two m n p)
+
   leaves : (s t : Scalar) → ScalarIsOf c s → cmp (leaf (renumber_scalar c s)) (leaf (renumber_scalar c t)) ≡ cmp (leaf s) (leaf t)
-  leaves (int32 m) (int32 n) p = two m n p
-  leaves (int32 m) (int64 n) p = two m n p
-  leaves (int64 m) (int32 n) p = two m n p
+  leaves (int32 m) (int32 n) p =
+      of_whole (λ s. cmp (leaf s) (leaf (whole c.narrow (c.becomes n))) ≡ cmp (leaf (int64 m)) (leaf (int64 n))) c.narrow (c.becomes m) (second m n p) (second m n p)
+  leaves (int32 m) (int64 n) p = of_whole (λ s. cmp (leaf s) (leaf (int64 (c.becomes n))) ≡ cmp (leaf (int64 m)) (leaf (int64 n))) c.narrow (c.becomes m) (two m n p) (two m n p)
+  leaves (int64 m) (int32 n) p = second m n p
   leaves (int64 m) (int64 n) p = two m n p
-  leaves (int32 m) _ p = refl
+  leaves (int32 m) t p = of_whole (λ s. cmp (leaf s) (leaf t) ≡ cmp (leaf (int32 m)) (leaf t)) c.narrow (c.becomes m) refl refl
   leaves (int64 m) _ p = refl
-  leaves _ (int32 n) p = refl
+  leaves s (int32 n) p = of_whole (λ t. cmp (leaf s) (leaf t) ≡ cmp (leaf s) (leaf (int32 n))) c.narrow (c.becomes n) refl refl
   leaves _ (int64 n) p = refl
   leaves _ _ p = refl
 
 module _ (c : Code) where
   leaf_doc : (s : Scalar) (fs gs : Fields) → cmp (leaf (renumber_scalar c s)) (doc fs) ≡ cmp (leaf s) (doc gs)
   leaf_doc trees.min_key fs gs = refl
+  leaf_doc (int32 n) fs gs = of_whole (λ s. cmp (leaf s) (doc fs) ≡ cmp (leaf (int32 n)) (doc gs)) c.narrow (c.becomes n) refl refl
   leaf_doc _ fs gs = refl
 
   leaf_array : (s : Scalar) (ts us : Items) → cmp (leaf (renumber_scalar c s)) (array ts) ≡ cmp (leaf s) (array us)
   leaf_array trees.min_key ts us = refl
+  leaf_array (int32 n) ts us = of_whole (λ s. cmp (leaf s) (array ts) ≡ cmp (leaf (int32 n)) (array us)) c.narrow (c.becomes n) refl refl
   leaf_array _ ts us = refl
 
   leaf_code : (s : Scalar) (b : List ℕ) (fs gs : Fields) → cmp (leaf (renumber_scalar c s)) (code_scope b fs) ≡ cmp (leaf s) (code_scope b gs)
   leaf_code trees.min_key b fs gs = refl
+  leaf_code (int32 n) b fs gs = of_whole (λ s. cmp (leaf s) (code_scope b fs) ≡ cmp (leaf (int32 n)) (code_scope b gs)) c.narrow (c.becomes n) refl refl
   leaf_code _ b fs gs = refl
 
   doc_leaf : (s : Scalar) (fs gs : Fields) → cmp (doc fs) (leaf (renumber_scalar c s)) ≡ cmp (doc gs) (leaf s)
   doc_leaf trees.min_key fs gs = refl
+  doc_leaf (int32 n) fs gs = of_whole (λ s. cmp (doc fs) (leaf s) ≡ cmp (doc gs) (leaf (int32 n))) c.narrow (c.becomes n) refl refl
   doc_leaf _ fs gs = refl
 
   array_leaf : (s : Scalar) (ts us : Items) → cmp (array ts) (leaf (renumber_scalar c s)) ≡ cmp (array us) (leaf s)
   array_leaf trees.min_key ts us = refl
+  array_leaf (int32 n) ts us = of_whole (λ s. cmp (array ts) (leaf s) ≡ cmp (array us) (leaf (int32 n))) c.narrow (c.becomes n) refl refl
   array_leaf _ ts us = refl
 
   code_leaf : (s : Scalar) (b : List ℕ) (fs gs : Fields) → cmp (code_scope b fs) (leaf (renumber_scalar c s)) ≡ cmp (code_scope b gs) (leaf s)
   code_leaf trees.min_key b fs gs = refl
+  code_leaf (int32 n) b fs gs = of_whole (λ s. cmp (code_scope b fs) (leaf s) ≡ cmp (code_scope b gs) (leaf (int32 n))) c.narrow (c.becomes n) refl refl
   code_leaf _ b fs gs = refl
 
 -- ---- values
@@ -86,6 +102,7 @@ class_stays c (doc fs) = refl
 class_stays c (array ts) = refl
 class_stays c (code_scope s fs) = refl
 class_stays c (leaf trees.min_key) = refl
+class_stays c (leaf (int32 n)) = of_whole (λ s. class_rank (class_of (leaf s)) ≡ class_rank (class_of (leaf (int32 n)))) (c []).narrow ((c []).becomes n) refl refl
 class_stays c (leaf _) = refl
 
 -- renumbered values compare by class as the values do

@@ -23,7 +23,8 @@ use Rattle.bd_cursor_request.specs.Refused.{Reason, bad_filter, plain as plain_r
 use Rattle.bd_cursor_request.specs.Request.{Request, request_of, request_text, request_with, sort_of}
 use Rattle.bd_cursor_request.specs.declared.results.Refused.TheVariants as reasons
 use Rattle.bd_wide_order.specs.Renumber.{Codes, below, renumber, renumber_items, renumber_fields, renumber_filter, renumber_filters, renumber_operator, renumber_operators}
-use Rattle.bd_wide_order.specs.Query.{pair_value, plain_operand, operand, query_fields, query_members, query_items, query_member, query_value, query_operators, query_inverse, query_element, renumber_query, renumber_request}
+use Rattle.bd_wide_order.proofs.OrderLemmas.{of_whole}
+use Rattle.bd_wide_order.specs.Query.{pair_value, plain_operand, operand, query_fields, query_members, query_items, query_member, query_value, query_operators, query_inverse, query_element, renumber_query, renumber_request, same_types}
 
 -- ---- reading, and functions of what was read
 
@@ -73,6 +74,7 @@ module _ (c : Codes) where
 
   regex_stays : (t : Tree) → is_regex (r t) ≡ is_regex t
   regex_stays (leaf trees.min_key) = refl
+  regex_stays (leaf (int32 n)) = of_whole (λ s. is_regex (leaf s) ≡ false) (c []).narrow ((c []).becomes n) refl refl
   regex_stays (leaf _) = refl
   regex_stays (doc fs) = refl
   regex_stays (array ts) = refl
@@ -80,6 +82,7 @@ module _ (c : Codes) where
 
   bound_stays : (t : Tree) → is_bound (r t) ≡ is_bound t
   bound_stays (leaf trees.min_key) = refl
+  bound_stays (leaf (int32 n)) = of_whole (λ s. is_bound (leaf s) ≡ false) (c []).narrow ((c []).becomes n) refl refl
   bound_stays (leaf _) = refl
   bound_stays (doc fs) = refl
   bound_stays (array ts) = refl
@@ -114,7 +117,7 @@ module _ (c : Codes) where
   list_stays (array ts) = members_stay 0 ts
   list_stays (code_scope s fs) = refl
 
-  plain_stays : (p : PlainOperator) (t : Tree) → plain_operator p (plain_operand p t (r t)) ≡ read_as (renumber_operator c) (plain_operator p t)
+  plain_stays : (p : PlainOperator) (t : Tree) → plain_operator p (plain_operand same_types p t (r t)) ≡ read_as (renumber_operator c) (plain_operator p t)
   plain_stays plain.Equal t = refl
   plain_stays plain.NotEqual t =
       read_on r (renumber_operator c) differs differs (λ v. refl) (unless_omitted (is_regex t) t) _ (unless_stays _ _ t (regex_stays t))
@@ -135,10 +138,10 @@ module _ (c : Codes) where
   logical_stays logical.Nor fs = ap none_of (filters_stay fs)
 
   operator_stays : (w : NameKind) (depth_left : ℕ) (t : Tree)
-      → not_operator depth_left (query_inverse c t) ≡ read_as (renumber_operator c) (not_operator depth_left t)
-      → element_operator depth_left (query_element c t) ≡ read_as (renumber_operator c) (element_operator depth_left t)
-      → operator_of w (operand w t (r t) (query_inverse c t) (query_element c t)) (not_operator depth_left (operand w t (r t) (query_inverse c t) (query_element c t)))
-      (element_operator depth_left (operand w t (r t) (query_inverse c t) (query_element c t)))
+      → not_operator depth_left (query_inverse same_types c t) ≡ read_as (renumber_operator c) (not_operator depth_left t)
+      → element_operator depth_left (query_element same_types c t) ≡ read_as (renumber_operator c) (element_operator depth_left t)
+      → operator_of w (operand same_types w t (r t) (query_inverse same_types c t) (query_element same_types c t)) (not_operator depth_left (operand same_types w t (r t) (query_inverse same_types c t) (query_element same_types c t)))
+      (element_operator depth_left (operand same_types w t (r t) (query_inverse same_types c t) (query_element same_types c t)))
       ≡ read_as (renumber_operator c) (operator_of w t (not_operator depth_left t) (element_operator depth_left t))
   operator_stays (name_kinds.Plain p) depth_left t a b = plain_stays p t
   operator_stays name_kinds.Not depth_left t a b = a
@@ -150,23 +153,23 @@ module _ (c : Codes) where
 
   -- ---- the first name of a renumbered document
 
-  first_operator_stays : (fs : Fields) → first_is_operator (query_operators c fs) ≡ first_is_operator fs
+  first_operator_stays : (fs : Fields) → first_is_operator (query_operators same_types c fs) ≡ first_is_operator fs
   first_operator_stays no_fields = refl
   first_operator_stays (field n t fs) = refl
 
-  operators_form_stays : (fs : Fields) → has_value_form (query_operators c fs) ≡ has_value_form fs
+  operators_form_stays : (fs : Fields) → has_value_form (query_operators same_types c fs) ≡ has_value_form fs
   operators_form_stays no_fields = refl
   operators_form_stays (field n t fs) = refl
 
-  fields_form_stays : (fs : Fields) → has_value_form (query_fields c fs) ≡ has_value_form fs
+  fields_form_stays : (fs : Fields) → has_value_form (query_fields same_types c fs) ≡ has_value_form fs
   fields_form_stays no_fields = refl
   fields_form_stays (field n t fs) = refl
 
   -- the value of a path, whose first name is an operator or not
   path_chosen : (b : Bool) (depth_left : ℕ) (fs : Fields) → first_is_operator fs ≡ b
-      → operators_of depth_left (query_operators c fs) ≡ read_as (map (renumber_operator c)) (operators_of depth_left fs)
-      → path_operators depth_left (cond b (doc (query_operators c fs)) (doc (renumber_fields c fs))) ≡ read_as (map (renumber_operator c)) (cond b (operators_of depth_left fs) (Ok (equals (doc fs) ∷ [])))
-  path_chosen true depth_left fs e h = ap (λ x. cond x (operators_of depth_left (query_operators c fs)) (Ok (equals (doc (query_operators c fs)) ∷ []))) (first_operator_stays fs ∙ e) ∙ h
+      → operators_of depth_left (query_operators same_types c fs) ≡ read_as (map (renumber_operator c)) (operators_of depth_left fs)
+      → path_operators depth_left (cond b (doc (query_operators same_types c fs)) (doc (renumber_fields c fs))) ≡ read_as (map (renumber_operator c)) (cond b (operators_of depth_left fs) (Ok (equals (doc fs) ∷ [])))
+  path_chosen true depth_left fs e h = ap (λ x. cond x (operators_of depth_left (query_operators same_types c fs)) (Ok (equals (doc (query_operators same_types c fs)) ∷ []))) (first_operator_stays fs ∙ e) ∙ h
   path_chosen false depth_left fs e h = ap (λ x. cond x (operators_of depth_left (renumber_fields c fs)) (Ok (equals (doc (renumber_fields c fs)) ∷ []))) (first_stays fs ∙ e)
 
   whole_value : (t : Tree) → read_as (λ v. equals v ∷ []) (unless_omitted (is_regex (r t)) (r t)) ≡ read_as (map (renumber_operator c)) (read_as (λ v. equals v ∷ []) (unless_omitted (is_regex t) t))
@@ -180,34 +183,34 @@ module _ (c : Codes) where
   inverse_chosen false true x y e h = absurd cc
 
   element_chosen : (b : Bool) (depth_left : ℕ) (fs : Fields) → has_value_form fs ≡ b
-      → inner_part depth_left (read_as (λ xs. has_element (operators_from xs)) (operators_of (depth_left - 1) (query_operators c fs)))
+      → inner_part depth_left (read_as (λ xs. has_element (operators_from xs)) (operators_of (depth_left - 1) (query_operators same_types c fs)))
       ≡ read_as (renumber_operator c) (inner_part depth_left (read_as (λ xs. has_element (operators_from xs)) (operators_of (depth_left - 1) fs)))
-      → inner_part depth_left (read_as (λ xs. has_document (filters_from xs)) (filters_of (depth_left - 1) (query_fields c fs)))
+      → inner_part depth_left (read_as (λ xs. has_document (filters_from xs)) (filters_of (depth_left - 1) (query_fields same_types c fs)))
       ≡ read_as (renumber_operator c) (inner_part depth_left (read_as (λ xs. has_document (filters_from xs)) (filters_of (depth_left - 1) fs)))
-      → element_operator depth_left (cond b (doc (query_operators c fs)) (doc (query_fields c fs)))
+      → element_operator depth_left (cond b (doc (query_operators same_types c fs)) (doc (query_fields same_types c fs)))
       ≡ read_as (renumber_operator c) (cond b (inner_part depth_left (read_as (λ xs. has_element (operators_from xs)) (operators_of (depth_left - 1) fs)))
       (inner_part depth_left (read_as (λ xs. has_document (filters_from xs)) (filters_of (depth_left - 1) fs))))
   element_chosen true depth_left fs e h k =
-      ap (λ x. cond x (inner_part depth_left (read_as (λ xs. has_element (operators_from xs)) (operators_of (depth_left - 1) (query_operators c fs))))
-      (inner_part depth_left (read_as (λ xs. has_document (filters_from xs)) (filters_of (depth_left - 1) (query_operators c fs))))) (operators_form_stays fs ∙ e) ∙ h
+      ap (λ x. cond x (inner_part depth_left (read_as (λ xs. has_element (operators_from xs)) (operators_of (depth_left - 1) (query_operators same_types c fs))))
+      (inner_part depth_left (read_as (λ xs. has_document (filters_from xs)) (filters_of (depth_left - 1) (query_operators same_types c fs))))) (operators_form_stays fs ∙ e) ∙ h
   element_chosen false depth_left fs e h k =
-      ap (λ x. cond x (inner_part depth_left (read_as (λ xs. has_element (operators_from xs)) (operators_of (depth_left - 1) (query_fields c fs))))
-      (inner_part depth_left (read_as (λ xs. has_document (filters_from xs)) (filters_of (depth_left - 1) (query_fields c fs))))) (fields_form_stays fs ∙ e) ∙ k
+      ap (λ x. cond x (inner_part depth_left (read_as (λ xs. has_element (operators_from xs)) (operators_of (depth_left - 1) (query_fields same_types c fs))))
+      (inner_part depth_left (read_as (λ xs. has_document (filters_from xs)) (filters_of (depth_left - 1) (query_fields same_types c fs))))) (fields_form_stays fs ∙ e) ∙ k
 
 -- a pair: its value has the codes below the names of its path
 pair_stays : (c : Codes) (names : Names) (w : NameKind) (path : Result Names PathFault) (depth_left : ℕ) (t : Tree) → ((p : Names) → path ≡ Ok p → p ≡ names)
-    → operand_filters depth_left (query_members c t) ≡ read_as (map (renumber_filter c)) (operand_filters depth_left t)
-    → path_operators depth_left (query_value (below names c) t) ≡ read_as (map (renumber_operator (below names c))) (path_operators depth_left t)
-    → pair_filter w path (operand_filters depth_left (pair_value w (query_members c t) (query_value (below names c) t)))
-    (path_operators depth_left (pair_value w (query_members c t) (query_value (below names c) t)))
+    → operand_filters depth_left (query_members same_types c t) ≡ read_as (map (renumber_filter c)) (operand_filters depth_left t)
+    → path_operators depth_left (query_value same_types (below names c) t) ≡ read_as (map (renumber_operator (below names c))) (path_operators depth_left t)
+    → pair_filter w path (operand_filters depth_left (pair_value w (query_members same_types c t) (query_value same_types (below names c) t)))
+    (path_operators depth_left (pair_value w (query_members same_types c t) (query_value same_types (below names c) t)))
     ≡ read_as (renumber_filter c) (pair_filter w path (operand_filters depth_left t) (path_operators depth_left t))
 pair_stays c names (name_kinds.Logical l) path depth_left t is a b =
-    read_on (map (renumber_filter c)) (renumber_filter c) (logical_filter l) (logical_filter l) (logical_stays c l) (operand_filters depth_left t) (operand_filters depth_left (query_members c t)) a
+    read_on (map (renumber_filter c)) (renumber_filter c) (logical_filter l) (logical_filter l) (logical_stays c l) (operand_filters depth_left t) (operand_filters depth_left (query_members same_types c t)) a
 pair_stays c names name_kinds.Field (Err fault) depth_left t is a b = refl
 pair_stays c names name_kinds.Field (Ok path) depth_left t is a b =
     read_on (map (renumber_operator (below names c))) (renumber_filter c) (λ os. at_path path (operators_from os)) (λ os. at_path path (operators_from os))
     (λ os. ap (at_path path) (operators_stay (below names c) os ∙ ap (λ p. renumber_operators (below p c) (operators_from os)) (sym (is path refl))))
-    (path_operators depth_left t) (path_operators depth_left (query_value (below names c) t)) b
+    (path_operators depth_left t) (path_operators depth_left (query_value same_types (below names c) t)) b
 pair_stays c names name_kinds.Omitted path depth_left t is a b = refl
 pair_stays c names name_kinds.Unknown path depth_left t is a b = refl
 pair_stays c names (name_kinds.Plain p) path depth_left t is a b = refl
@@ -217,7 +220,7 @@ pair_stays c names name_kinds.ElemMatch path depth_left t is a b = refl
 -- ---- filters
 
 mutual
-  filters_read : (c : Codes) (fs : Fields) (depth_left : ℕ) → filters_of depth_left (query_fields c fs) ≡ read_as (map (renumber_filter c)) (filters_of depth_left fs)
+  filters_read : (c : Codes) (fs : Fields) (depth_left : ℕ) → filters_of depth_left (query_fields same_types c fs) ≡ read_as (map (renumber_filter c)) (filters_of depth_left fs)
   filters_read c no_fields depth_left = refl
   filters_read c (field n t fs) depth_left =
       ap₂ (read_at n)
@@ -225,41 +228,41 @@ mutual
       (filters_read c fs depth_left)
       ∙ read_in_turn (renumber_filter c) n (pair_filter (name_kind_of n) (path_of n) (operand_filters depth_left t) (path_operators depth_left t)) (filters_of depth_left fs)
 
-  operand_read : (c : Codes) (t : Tree) (depth_left : ℕ) → operand_filters depth_left (query_members c t) ≡ read_as (map (renumber_filter c)) (operand_filters depth_left t)
+  operand_read : (c : Codes) (t : Tree) (depth_left : ℕ) → operand_filters depth_left (query_members same_types c t) ≡ read_as (map (renumber_filter c)) (operand_filters depth_left t)
   operand_read c (leaf s) depth_left = refl
   operand_read c (doc fs) depth_left = refl
   operand_read c (array no_items) depth_left = refl
   operand_read c (array (item t ts)) depth_left = members_read c (item t ts) depth_left 0
   operand_read c (code_scope s fs) depth_left = refl
 
-  members_read : (c : Codes) (ts : Items) (depth_left i : ℕ) → member_filters depth_left i (query_items c ts) ≡ read_as (map (renumber_filter c)) (member_filters depth_left i ts)
+  members_read : (c : Codes) (ts : Items) (depth_left i : ℕ) → member_filters depth_left i (query_items same_types c ts) ≡ read_as (map (renumber_filter c)) (member_filters depth_left i ts)
   members_read c no_items depth_left i = refl
   members_read c (item t ts) depth_left i =
       ap₂ (read_at (decimal i)) (member_read c t depth_left) (members_read c ts depth_left (i + 1))
       ∙ read_in_turn (renumber_filter c) (decimal i) (member_filter depth_left t) (member_filters depth_left (i + 1) ts)
 
-  member_read : (c : Codes) (t : Tree) (depth_left : ℕ) → member_filter depth_left (query_member c t) ≡ read_as (renumber_filter c) (member_filter depth_left t)
+  member_read : (c : Codes) (t : Tree) (depth_left : ℕ) → member_filter depth_left (query_member same_types c t) ≡ read_as (renumber_filter c) (member_filter depth_left t)
   member_read c (leaf s) depth_left = refl
   member_read c (doc fs) depth_left =
       inner_stays (renumber_filter c) depth_left _ _
       (read_on (map (renumber_filter c)) (renumber_filter c) (λ xs. all_of (filters_from xs)) (λ xs. all_of (filters_from xs)) (λ xs. ap all_of (filters_stay c xs))
-      (filters_of (depth_left - 1) fs) (filters_of (depth_left - 1) (query_fields c fs)) (filters_read c fs (depth_left - 1)))
+      (filters_of (depth_left - 1) fs) (filters_of (depth_left - 1) (query_fields same_types c fs)) (filters_read c fs (depth_left - 1)))
   member_read c (array ts) depth_left = refl
   member_read c (code_scope s fs) depth_left = refl
 
-  value_read : (c : Codes) (t : Tree) (depth_left : ℕ) → path_operators depth_left (query_value c t) ≡ read_as (map (renumber_operator c)) (path_operators depth_left t)
+  value_read : (c : Codes) (t : Tree) (depth_left : ℕ) → path_operators depth_left (query_value same_types c t) ≡ read_as (map (renumber_operator c)) (path_operators depth_left t)
   value_read c (leaf s) depth_left = whole_value c (leaf s)
   value_read c (doc fs) depth_left = path_chosen c (first_is_operator fs) depth_left fs refl (operators_read c fs depth_left)
   value_read c (array ts) depth_left = whole_value c (array ts)
   value_read c (code_scope s fs) depth_left = whole_value c (code_scope s fs)
 
-  operators_read : (c : Codes) (fs : Fields) (depth_left : ℕ) → operators_of depth_left (query_operators c fs) ≡ read_as (map (renumber_operator c)) (operators_of depth_left fs)
+  operators_read : (c : Codes) (fs : Fields) (depth_left : ℕ) → operators_of depth_left (query_operators same_types c fs) ≡ read_as (map (renumber_operator c)) (operators_of depth_left fs)
   operators_read c no_fields depth_left = refl
   operators_read c (field n t fs) depth_left =
       ap₂ (read_at n) (operator_stays c (name_kind_of n) depth_left t (inverse_read c t depth_left) (element_read c t depth_left)) (operators_read c fs depth_left)
       ∙ read_in_turn (renumber_operator c) n (operator_of (name_kind_of n) t (not_operator depth_left t) (element_operator depth_left t)) (operators_of depth_left fs)
 
-  inverse_read : (c : Codes) (t : Tree) (depth_left : ℕ) → not_operator depth_left (query_inverse c t) ≡ read_as (renumber_operator c) (not_operator depth_left t)
+  inverse_read : (c : Codes) (t : Tree) (depth_left : ℕ) → not_operator depth_left (query_inverse same_types c t) ≡ read_as (renumber_operator c) (not_operator depth_left t)
   inverse_read c (leaf s) depth_left = cases (is_regex (leaf s))
     where
       cases : (b : Bool) → cond b (refuse faults.NotInProfile) (refuse faults.BadOperand) ≡ read_as (renumber_operator c) (cond b (refuse faults.NotInProfile) (refuse faults.BadOperand))
@@ -269,31 +272,31 @@ mutual
       inverse_chosen c _ _ (inner_part depth_left (read_as (λ xs. negates (operators_from xs)) (operators_of (depth_left - 1) fs))) _ (first_operator_stays c fs)
       (inner_stays (renumber_operator c) depth_left (read_as (λ xs. negates (operators_from xs)) (operators_of (depth_left - 1) fs)) _
       (read_on (map (renumber_operator c)) (renumber_operator c) (λ xs. negates (operators_from xs)) (λ xs. negates (operators_from xs)) (λ xs. ap negates (operators_stay c xs))
-      (operators_of (depth_left - 1) fs) (operators_of (depth_left - 1) (query_operators c fs)) (operators_read c fs (depth_left - 1))))
+      (operators_of (depth_left - 1) fs) (operators_of (depth_left - 1) (query_operators same_types c fs)) (operators_read c fs (depth_left - 1))))
   inverse_read c (array ts) depth_left = refl
   inverse_read c (code_scope s fs) depth_left = refl
 
-  element_read : (c : Codes) (t : Tree) (depth_left : ℕ) → element_operator depth_left (query_element c t) ≡ read_as (renumber_operator c) (element_operator depth_left t)
+  element_read : (c : Codes) (t : Tree) (depth_left : ℕ) → element_operator depth_left (query_element same_types c t) ≡ read_as (renumber_operator c) (element_operator depth_left t)
   element_read c (leaf s) depth_left = refl
   element_read c (doc fs) depth_left =
       element_chosen c (has_value_form fs) depth_left fs refl
       (inner_stays (renumber_operator c) depth_left (read_as (λ xs. has_element (operators_from xs)) (operators_of (depth_left - 1) fs)) _
       (read_on (map (renumber_operator c)) (renumber_operator c) (λ xs. has_element (operators_from xs)) (λ xs. has_element (operators_from xs)) (λ xs. ap has_element (operators_stay c xs))
-      (operators_of (depth_left - 1) fs) (operators_of (depth_left - 1) (query_operators c fs)) (operators_read c fs (depth_left - 1))))
+      (operators_of (depth_left - 1) fs) (operators_of (depth_left - 1) (query_operators same_types c fs)) (operators_read c fs (depth_left - 1))))
       (inner_stays (renumber_operator c) depth_left (read_as (λ xs. has_document (filters_from xs)) (filters_of (depth_left - 1) fs)) _
       (read_on (map (renumber_filter c)) (renumber_operator c) (λ xs. has_document (filters_from xs)) (λ xs. has_document (filters_from xs)) (λ xs. ap has_document (filters_stay c xs))
-      (filters_of (depth_left - 1) fs) (filters_of (depth_left - 1) (query_fields c fs)) (filters_read c fs (depth_left - 1))))
+      (filters_of (depth_left - 1) fs) (filters_of (depth_left - 1) (query_fields same_types c fs)) (filters_read c fs (depth_left - 1))))
   element_read c (array ts) depth_left = refl
   element_read c (code_scope s fs) depth_left = refl
 
-top_read : (c : Codes) (fs : Fields) → read_as (λ xs. all_of (filters_from xs)) (filters_of (most_filter_levels - 1) (query_fields c fs))
+top_read : (c : Codes) (fs : Fields) → read_as (λ xs. all_of (filters_from xs)) (filters_of (most_filter_levels - 1) (query_fields same_types c fs))
     ≡ read_as (renumber_filter c) (read_as (λ xs. all_of (filters_from xs)) (filters_of (most_filter_levels - 1) fs))
 top_read c fs =
     read_on (map (renumber_filter c)) (renumber_filter c) (λ xs. all_of (filters_from xs)) (λ xs. all_of (filters_from xs)) (λ xs. ap all_of (filters_stay c xs))
-    (filters_of (most_filter_levels - 1) fs) (filters_of (most_filter_levels - 1) (query_fields c fs)) (filters_read c fs (most_filter_levels - 1))
+    (filters_of (most_filter_levels - 1) fs) (filters_of (most_filter_levels - 1) (query_fields same_types c fs)) (filters_read c fs (most_filter_levels - 1))
 
 pub query_read : (c : Codes) (d : Doc) → filter_of (renumber_query c d) ≡ read_as (renumber_filter c) (filter_of d)
-query_read c d = ap (λ fs. read_as (λ xs. all_of (filters_from xs)) (filters_of (most_filter_levels - 1) fs)) (fields_of-pairs_of (query_fields c (fields_of d))) ∙ top_read c (fields_of d)
+query_read c d = ap (λ fs. read_as (λ xs. all_of (filters_from xs)) (filters_of (most_filter_levels - 1) fs)) (fields_of-pairs_of (query_fields same_types c (fields_of d))) ∙ top_read c (fields_of d)
 
 -- ---- requests
 

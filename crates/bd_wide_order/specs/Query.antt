@@ -1,6 +1,6 @@
 -- The document of a query with another number in place of each number that it compares with,
--- depending on the path.
--- The operands of `$size`, `$exists` and `$type` stay;
+-- depending on the path, and another operand in place of each operand of `$type`.
+-- The operands of `$size` and `$exists` stay;
 -- inside a value that is compared as a whole these names are ordinary names.
 use Rattle.std.specs.Prelude.{ℕ, List, if◌then◌else◌}
 use Rattle.bd_value.specs.Tree.{Tree, doc, array, Items, no_items, item, Fields, no_fields, field, Doc, fields_of, pairs_of}
@@ -19,72 +19,80 @@ abbrev pub pair_value : NameKind → Tree → Tree → Tree
 pair_value (name_kinds.Logical l) members value = members
 pair_value w members value = value
 
--- the operand of an operator: `$size`, `$exists` and `$type` keep theirs, others get the new value
-abbrev pub plain_operand : PlainOperator → Tree → Tree → Tree
-plain_operand plain.Size t value = t
-plain_operand plain.Exists t value = t
-plain_operand plain.Type t value = t
-plain_operand p t value = value
+-- the operand of an operator: `$size` and `$exists` keep theirs, `$type` gets other types, others get the new value
+abbrev pub plain_operand : (Tree → Tree) → PlainOperator → Tree → Tree → Tree
+plain_operand types plain.Size t value = t
+plain_operand types plain.Exists t value = t
+plain_operand types plain.Type t value = types t
+plain_operand types p t value = value
 
 -- the operand of an operator, by its name
-abbrev pub operand : NameKind → Tree → Tree → Tree → Tree → Tree
-operand (name_kinds.Plain p) t value inverse element = plain_operand p t value
-operand name_kinds.Not t value inverse element = inverse
-operand name_kinds.ElemMatch t value inverse element = element
-operand w t value inverse element = t
+abbrev pub operand : (Tree → Tree) → NameKind → Tree → Tree → Tree → Tree → Tree
+operand types (name_kinds.Plain p) t value inverse element = plain_operand types p t value
+operand types name_kinds.Not t value inverse element = inverse
+operand types name_kinds.ElemMatch t value inverse element = element
+operand types w t value inverse element = t
 
 abbrev mutual
   -- the pairs of a document that is a filter, with other numbers
-  pub query_fields : Codes → Fields → Fields
-  query_fields c no_fields = no_fields
-  query_fields c (field n t fs) =
+  pub query_fields : (Tree → Tree) → Codes → Fields → Fields
+  query_fields types c no_fields = no_fields
+  query_fields types c (field n t fs) =
       field n
-      (pair_value (name_kind_of n) (query_members c t) (query_value (below (components_of n) c) t))
-      (query_fields c fs)
+      (pair_value (name_kind_of n) (query_members types c t) (query_value types (below (components_of n) c) t))
+      (query_fields types c fs)
 
   -- the operand of `$and`, `$or` and `$nor`, with other numbers
-  pub query_members : Codes → Tree → Tree
-  query_members c (array ts) = array (query_items c ts)
-  query_members c t = t
+  pub query_members : (Tree → Tree) → Codes → Tree → Tree
+  query_members types c (array ts) = array (query_items types c ts)
+  query_members types c t = t
 
   -- the members of the array of `$and`, `$or` or `$nor`, with other numbers
-  pub query_items : Codes → Items → Items
-  query_items c no_items = no_items
-  query_items c (item t ts) = item (query_member c t) (query_items c ts)
+  pub query_items : (Tree → Tree) → Codes → Items → Items
+  query_items types c no_items = no_items
+  query_items types c (item t ts) = item (query_member types c t) (query_items types c ts)
 
   -- one member of `$and`, `$or` or `$nor`, which is a filter, with other numbers
-  pub query_member : Codes → Tree → Tree
-  query_member c (doc fs) = doc (query_fields c fs)
-  query_member c t = t
+  pub query_member : (Tree → Tree) → Codes → Tree → Tree
+  query_member types c (doc fs) = doc (query_fields types c fs)
+  query_member types c t = t
 
   -- the value of a path, operators or a value to equal, with other numbers
-  pub query_value : Codes → Tree → Tree
-  query_value c (doc fs) =
-      if first_is_operator fs then doc (query_operators c fs) else doc (renumber_fields c fs)
-  query_value c t = renumber c t
+  pub query_value : (Tree → Tree) → Codes → Tree → Tree
+  query_value types c (doc fs) =
+      if first_is_operator fs then doc (query_operators types c fs) else doc (renumber_fields c fs)
+  query_value types c t = renumber c t
 
   -- the operators of a path, with other numbers in their operands
-  pub query_operators : Codes → Fields → Fields
-  query_operators c no_fields = no_fields
-  query_operators c (field n t fs) =
+  pub query_operators : (Tree → Tree) → Codes → Fields → Fields
+  query_operators types c no_fields = no_fields
+  query_operators types c (field n t fs) =
       field n
-      (operand (name_kind_of n) t (renumber c t) (query_inverse c t) (query_element c t))
-      (query_operators c fs)
+      (operand types (name_kind_of n) t (renumber c t) (query_inverse types c t) (query_element types c t))
+      (query_operators types c fs)
 
   -- the operand of `$not`, with other numbers
-  pub query_inverse : Codes → Tree → Tree
-  query_inverse c (doc fs) = doc (query_operators c fs)
-  query_inverse c t = t
+  pub query_inverse : (Tree → Tree) → Codes → Tree → Tree
+  query_inverse types c (doc fs) = doc (query_operators types c fs)
+  query_inverse types c t = t
 
   -- the operand of `$elemMatch`, operators or a filter, with other numbers
-  pub query_element : Codes → Tree → Tree
-  query_element c (doc fs) =
-      if has_value_form fs then doc (query_operators c fs) else doc (query_fields c fs)
-  query_element c t = t
+  pub query_element : (Tree → Tree) → Codes → Tree → Tree
+  query_element types c (doc fs) =
+      if has_value_form fs then doc (query_operators types c fs) else doc (query_fields types c fs)
+  query_element types c t = t
+
+-- the document of a query, with other types in each `$type`, and another number in place of each number that it compares with
+abbrev pub rewrite_query : (Tree → Tree) → Codes → Doc → Doc
+rewrite_query types c d = pairs_of (query_fields types c (fields_of d))
+
+-- the types that a `$type` has
+abbrev pub same_types : Tree → Tree
+same_types t = t
 
 -- the document of a query, with another number in place of each number that it compares with
 abbrev pub renumber_query : Codes → Doc → Doc
-renumber_query c d = pairs_of (query_fields c (fields_of d))
+renumber_query c d = rewrite_query same_types c d
 
 -- ---- requests
 

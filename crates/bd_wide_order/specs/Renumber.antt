@@ -1,21 +1,18 @@
--- Values, documents and filters with another number, an int64, in place of each whole number.
+-- Values, documents and filters with another number in place of each whole number.
 -- What a number becomes depends on its path: the names from the top down to it, without indexes of arrays.
-use Rattle.std.specs.Prelude.{◌≡◌, ◌<ℤ◌, ℕ, ℤ, Bool, IsTrue, List, [], ◌∷◌, ◌++◌, map, All, codes}
-use Rattle.std.specs.List.{list_any}
+use Rattle.std.specs.Prelude.{◌≡◌, ◌<ℤ◌, ℕ, ℤ, Bool, IsTrue, List, [], ◌∷◌, ◌++◌, map, All, codes, if◌then◌else◌}
 use Rattle.bd_value.specs.Tree.{Scalar, int32, int64, Tree, leaf, doc, array, code_scope, Items, no_items, item}
 use Rattle.bd_value.specs.Tree.{Fields, no_fields, field, Doc, fields_of}
-use Rattle.bd_value.specs.declared.node.Kind.{Kind}
-use Rattle.bd_value.specs.declared.node.Kind.TheVariants as kinds
 use Rattle.bd_path.specs.{Reach.Names, Reach.is_index, Sort.SortPath}
 use Rattle.bd_query_filter.specs.Filter.{Filter, all_of, some_of, none_of, at_path, Filters, no_filters, filter, Operator}
 use Rattle.bd_query_filter.specs.Filter.{equals, differs, compares, is_in, is_not_in, has_all, has_type, has_size, exists, negates, has_element}
 use Rattle.bd_query_filter.specs.Filter.{has_document, Operators, no_operators, operator}
-use Rattle.bd_query_filter.specs.NameKind.{is_kind}
 
--- for one path: what each number becomes, and which numbers may occur
+-- for one path: what each number becomes, which numbers may occur, and whether an int32 stays an int32 or becomes an int64
 pub record Code : Type 0 where
   pub becomes : ℤ → ℤ
   pub occurs : ℤ → Bool
+  pub narrow : Bool
 
 -- a code for each path
 abbrev pub Codes : Type 0
@@ -63,10 +60,14 @@ SortsReadAlike c ss = All (λ s. ReadsAlike c s.path) ss
 
 -- ---- values
 
--- an int32 or an int64 as the int64 that its code is;
--- any other scalar stays, a date and a timestamp too
+-- a whole number as an int32, or as an int64
+abbrev pub whole : Bool → ℤ → Scalar
+whole narrow n = if narrow then int32 n else int64 n
+
+-- an int32 or an int64 as the number that it becomes; an int64 stays one.
+-- Any other scalar stays, a date and a timestamp too
 abbrev pub renumber_scalar : Code → Scalar → Scalar
-renumber_scalar c (int32 n) = int64 (c.becomes n)
+renumber_scalar c (int32 n) = whole c.narrow (c.becomes n)
 renumber_scalar c (int64 n) = int64 (c.becomes n)
 renumber_scalar c s = s
 
@@ -166,16 +167,9 @@ abbrev mutual
   renumber_operators c no_operators = no_operators
   renumber_operators c (operator o os) = operator (renumber_operator c o) (renumber_operators c os)
 
--- The types include both int32 and int64, or neither.
-abbrev pub TakeNumbersAlike : List Kind → Type 0
-TakeNumbersAlike ks =
-    list_any (λ k. is_kind k kinds.Int32) ks ≡ list_any (λ k. is_kind k kinds.Int64) ks
-
--- Each path of a filter reads alike, each number that it compares with may occur there, and no `$type` distinguishes int32
--- from int64.
+-- Each path of a filter reads alike, and where it requests types, an int32 stays an int32.
 abbrev mutual
-  -- A filter depends only on what renumbering preserves: paths that read alike, numbers that may occur there,
-  -- and no `$type` that distinguishes int32 from int64.
+  -- A filter depends only on what renumbering preserves: paths that read alike, and types only where they stay.
   pub FilterNeeds : Codes → Filter → Type 0
   FilterNeeds c (all_of fs) = FiltersNeed c fs
   FilterNeeds c (some_of fs) = FiltersNeed c fs
@@ -195,7 +189,7 @@ abbrev mutual
   OperatorNeeds c (is_in vs) = Unit {0}
   OperatorNeeds c (is_not_in vs) = Unit {0}
   OperatorNeeds c (has_all vs) = Unit {0}
-  OperatorNeeds c (has_type ks) = TakeNumbersAlike ks
+  OperatorNeeds c (has_type ks) = IsTrue (c []).narrow
   OperatorNeeds c (has_size n) = Unit {0}
   OperatorNeeds c (exists b) = Unit {0}
   OperatorNeeds c (negates os) = OperatorsNeed c os

@@ -12,7 +12,7 @@ ghost use Rattle.bd_cursor_request.specs.Request.{Request, request_of, request_t
 ghost use Rattle.bd_cursor_sort.specs.Selection.{query_to};
 ghost use Rattle.bd_wide_order.specs.Pages.{HaveOneAnswer};
 ghost use Rattle.bd_wide_order.specs.Query.{RequestNeeds, renumber_query, renumber_request};
-ghost use Rattle.bd_wide_order.specs.Ranks.{TypesAlike, table_codes};
+ghost use Rattle.bd_wide_order.specs.Ranks.{table_codes};
 ghost use Rattle.bd_wide_order.specs.Renumber.{KeepOrder, FilterNeeds, Codes, DocumentsAreOf, IsOf, PassOverIndexes};
 ghost use Rattle.bd_wide_order.specs.Renumber.{ReadsAlike, SortsReadAlike, below, renumber, renumber_documents, renumber_filter};
 
@@ -69,9 +69,9 @@ pub fn answers_stay()
 {}
 
 /// Over documents whose numbers are all in a table, with the rank in the table in place of each number, also in the request,
-/// a request has its answer by value. The numbers of the request may be any numbers, and every path may be asked for.
+/// a request has its answer by value. The numbers of the request may be any numbers, and every path and every type may be asked for.
 pub fn ranked_dumps_answer_by_value()
-    ensures { (table : List ℤ) (r : Request) → TypesAlike r.filter → let c = table_codes table in
+    ensures { (table : List ℤ) (r : Request) → let c = table_codes table in
         (ds : List Doc) → DocumentsAreOf c ds → (bytes new text : List ℕ) →
         HaveOneAnswer (query_to new (renumber_documents c ds) (renumber_request c text r))
         (query_to bytes ds r) }
