@@ -2,6 +2,7 @@
 use Rattle.std.proofs.Common.{◌≡◌, ℕ, ℤ, List, [], ◌∷◌, ◌++◌, take, drop, map, Some, None, refl, sym, ap, ◌∙◌, subst, append_assoc, append-nil}
 use Rattle.std.proofs.lemmas.{List.map-append}
 use Rattle.bd_value.specs.Tree.{Doc, fields_of}
+use Rattle.bd_bson_view.specs.Spelling.{valued}
 use Rattle.bd_wide_number.specs.declared.number.Number.{Number}
 use Rattle.bd_wide_rank.specs.{Rank.HaveSame, Worth.worth, Worth.worth_if, Worth.worth_of}
 use Rattle.bd_wide_rank.proofs.RankLemmas.{same_both, same_second, same_sym, same_trans}
@@ -49,12 +50,12 @@ begins bytes old = λ last h. h
 
 pub all_collected : (bytes rest : List ℕ) (old now : List ℤ) → Comes bytes rest old now → None ≡ frame_size rest → AddsWorths bytes old now
 all_collected bytes rest old now comes is =
-    comes now (λ ds j. subst (λ (xs : List Doc). HaveSame now (document_numbers xs ++ now)) (sym (ended worth ds rest j (sym is)).0) (itself now))
+    comes now (λ ds j. subst (λ (xs : List Doc). HaveSame now (document_numbers xs ++ now)) (sym (ended (valued worth) ds rest j (sym is)).0) (itself now))
 
 pub collected_on : (bytes rest document after : List ℕ) (old now next : List ℤ) (all : List Number) (n : ℕ) → Comes bytes rest old now → Some n ≡ frame_size rest
     → document ≡ take n rest → after ≡ drop n rest → AreNumbersOf document all → HaveSame next (map worth_of all ++ now) → Comes bytes after old next
 collected_on bytes rest document after old now next all n comes is p q numbers have = λ last h. comes last (λ ds j.
-    let f = first_of worth ds rest n j (sym is) in
+    let f = first_of (valued worth) ds rest n j (sym is) in
     let xs : List ℤ = field_numbers (fields_of f.0) in
     let ys : List ℤ = document_numbers f.1 in
     let first : map worth_of all ≡ xs = (subst (λ (x : List ℕ). AreNumbersOf x all) p numbers).0 worth_of worth worth_is f.0 f.3 in

@@ -16,9 +16,9 @@ use Rattle.bd_bson_view.proofs.ValueAtLemmas as values
 use Rattle.bd_wide.specs.Rewritten.{Adds, Writes, Nested, size_at, part_of, IsPart, IsElement, AreElements, IsBody, IsScoped, IsNested, IsRewritten}
 use Rattle.bd_wide.proofs.RewriteLemmas.{Turn, to_turn, none_only, ScopeTurn, to_scope}
 use Rattle.bd_wide.proofs.LengthLemmas.{to_whole, WholeTurn}
-use Rattle.bd_wide_copy.proofs.SizeLemmas.{least_size, framed_le, scoped_le, parts_le}
+use Rattle.bd_wide_copy.proofs.SizeLemmas.{framed_le, scoped_le, parts_le}
 use Rattle.bd_wide_copy.proofs.PlaceLemmas.{Place, Other, number_or_other, number_place, other_place, doc_place, array_place, code_place, number_part, first_there, scope_there, inner_is, scope_is, body_short, code_short, value_short, parts_short}
-use Rattle.bd_wide_copy.specs.Copy.{coded, coded_fields, coded_items, coded_document, IsCodeOf, IsCopy, int32_of}
+use Rattle.bd_wide_copy.specs.Copy.{coded, coded_fields, coded_items, coded_document, number_as, IsCodeOf, IsNoLonger}
 
 -- ---- what is written
 
@@ -135,7 +135,7 @@ module _ (Is : Writes) where
 
 -- ---- depth
 
-module _ (c : ℤ → Scalar) where
+module _ (c : Scalar → Scalar) where
   mutual
     pub same_depth : (t : Tree) → depth (coded c t) ≡ depth t
     same_depth (leaf a) = refl
@@ -161,22 +161,22 @@ module _ (worth : ElementType → List ℕ → ℤ) (c : ℤ → Scalar) (fits :
   abbrev Is : Writes
   Is = IsCodeOf worth c
 
-  -- If each code has at most four bytes, the new bytes are not more than the old.
+  -- If each code has no more bytes than the number, the new bytes are not more than the old.
   abbrev Shorter : List ℕ → List ℕ → Type 0
-  Shorter old new = ((z : ℤ) → length (scalar_bytes (c z)) ≤ 4) → length new ≤ length old
+  Shorter old new = IsNoLonger worth c → length new ≤ length old
 
   -- the elements with codes, for these bytes
   abbrev Fielded : Fields → List ℕ → List ℕ → Type 0
-  Fielded fs old new = AreFields (coded_fields c fs) new × Shorter old new
+  Fielded fs old new = AreFields (coded_fields (number_as c) fs) new × Shorter old new
 
   abbrev Listed : Items → List ℕ → List ℕ → Type 0
-  Listed ts old new = AreItems (coded_items c ts) new × Shorter old new
+  Listed ts old new = AreItems (coded_items (number_as c) ts) new × Shorter old new
 
   -- what is written for an element is an element with codes
   abbrev Becomes : Tree → ElementType → ℕ → List ℕ → Type 0
   Becomes t type b bare = (depth_left : ℕ) (name one : List ℕ) → depth t ≤ depth_left
       → IsElement Is (IsNested Is depth_left) type (b ∷ (name ++ 0 ∷ [])) bare one
-      → (w : List ℕ) × IsValue (coded c t) w × (one ≡ element (coded c t) name w) × Shorter bare w
+      → (w : List ℕ) × IsValue (coded (number_as c) t) w × (one ≡ element (coded (number_as c) t) name w) × Shorter bare w
 
   abbrev Step : Tree → List ℕ → Type 0
   Step t value = (p : Place t value) × Becomes t p.type p.byte p.bare
@@ -196,7 +196,7 @@ module _ (worth : ElementType → List ℕ → ℤ) (c : ℤ → Scalar) (fits :
           (fits z, refl),
           written ∙ ap (λ (m : ℤ). type_byte (scalar_kind (c m)) ∷ ((name ++ 0 ∷ []) ++ scalar_bytes (c m))) n.is_worth
               ∙ joined (type_byte (scalar_kind (c z))) name (scalar_bytes (c z)),
-          (λ four. omega (arith, four z, n.sized, least_size n.kind)),
+          (λ four. omega (arith, four n.kind n.value n.sized, ap (λ (m : ℤ). length (scalar_bytes (c m))) n.is_worth)),
         )),
   )
 
@@ -271,7 +271,7 @@ module _ (worth : ElementType → List ℕ → ℤ) (c : ℤ → Scalar) (fits :
       let two = more depth_left g.0 g.2 (omega (arith, d, le-max_right (depth t) (fields_depth fs))) g.3 g.5 in
       let whole = g.6 ∙ ap (λ (x : List ℕ). x ++ g.2) one.2 in (
         (one.0, g.2, named, one.1, two.0, whole),
-        (λ four. parts_le p.byte (type_byte (kind_of (coded c t))) name p.bare one.0 rest g.2 bytes new splits whole (one.3 four) (two.1 four)),
+        (λ four. parts_le p.byte (type_byte (kind_of (coded (number_as c) t))) name p.bare one.0 rest g.2 bytes new splits whole (one.3 four) (two.1 four)),
       )
 
   item_become : (t : Tree) (ts : Items) (name value rest bytes : List ℕ) → IsName name → bytes ≡ written_typed t name value ++ rest
@@ -285,7 +285,7 @@ module _ (worth : ElementType → List ℕ → ℤ) (c : ℤ → Scalar) (fits :
       let two = more depth_left g.0 g.2 (omega (arith, d, le-max_right (depth t) (items_depth ts))) g.3 g.5 in
       let whole = g.6 ∙ ap (λ (x : List ℕ). x ++ g.2) one.2 in (
         (name, one.0, g.2, named, one.1, two.0, whole),
-        (λ four. parts_le p.byte (type_byte (kind_of (coded c t))) name p.bare one.0 rest g.2 bytes new splits whole (one.3 four) (two.1 four)),
+        (λ four. parts_le p.byte (type_byte (kind_of (coded (number_as c) t))) name p.bare one.0 rest g.2 bytes new splits whole (one.3 four) (two.1 four)),
       )
 
   mutual
@@ -326,27 +326,19 @@ module _ (worth : ElementType → List ℕ → ℤ) (c : ℤ → Scalar) (fits :
 
   -- what is written is the document with codes
   pub copy_spelled : (d : Doc) (bytes new : List ℕ) → IsDocumentBy (valued worth) d bytes → IsRewritten Is bytes new
-      → length new ≤ longest_document → IsDocument (coded_document c d) new
+      → length new ≤ longest_document → IsDocument (coded_document (number_as c) d) new
   copy_spelled d bytes new is h short = let w = around d bytes new is h in
       record {
-        spells = subst (λ (fs : Fields). IsValue (doc fs) new) (same_fields c d) (w.0, w.1.0, w.2);
+        spells = subst (λ (fs : Fields). IsValue (doc fs) new) (same_fields (number_as c) d) (w.0, w.1.0, w.2);
         short = short;
-        shallow = subst (λ (n : ℕ). n ≤ most_levels) (sym (same_depth c (doc (fields_of d))) ∙ ap (λ (fs : Fields). depth (doc fs)) (same_fields c d)) is.shallow;
+        shallow = subst (λ (n : ℕ). n ≤ most_levels) (sym (same_depth (number_as c) (doc (fields_of d))) ∙ ap (λ (fs : Fields). depth (doc fs)) (same_fields (number_as c) d)) is.shallow;
       }
 
-  -- codes of four bytes at most make no document longer
-  pub copy_short : ((z : ℤ) → length (scalar_bytes (c z)) ≤ 4) → (d : Doc) (bytes new : List ℕ) → IsDocumentBy (valued worth) d bytes
+  -- codes that are no longer than the numbers make no document longer
+  pub copy_short : IsNoLonger worth c → (d : Doc) (bytes new : List ℕ) → IsDocumentBy (valued worth) d bytes
       → IsRewritten Is bytes new → length new ≤ length bytes
   copy_short four d bytes new is h = let w = around d bytes new is h in
       framed_le is.spells.0 w.0 bytes new is.spells.2 w.2 (w.1.1 four)
-
--- the copy that the rewritten bytes are
-pub copied : (worth : ElementType → List ℕ → ℤ) (code : ℤ → ℤ) → ((z : ℤ) → FitsSigned w32 (code z)) → (bytes new : List ℕ)
-    → IsRewritten (IsCodeOf worth (int32_of code)) bytes new → IsCopy worth code bytes new
-copied worth code fits bytes new h d is =
-    let four : (z : ℤ) → length (scalar_bytes (int32_of code z)) ≤ 4 = λ z. omega (arith, number_length (cast_unsigned w32 (code z))) in
-    let short = copy_short worth (int32_of code) fits four d bytes new is h in
-    (copy_spelled worth (int32_of code) fits d bytes new is h (omega (arith, short, is.short)), short)
 
 pub ok_copied : {E : Type 0} (r : Result (Unit {0}) E) (Is So : List ℕ → Type 0) (old out : List ℕ) → ((new : List ℕ) → Is new → So new)
     → OnOk r (Adds Is old out) → OnOk r (Adds So old out)

@@ -14,7 +14,7 @@ use Rattle.bd_bson_view.proofs.ValueAtLemmas as values
 use Rattle.bd_wide.specs.declared.element.Part.TheVariants as parts
 use Rattle.bd_wide.specs.Rewritten.{◌>>=◌, counted, first_zero, size_at, first_element, part_of, scope_at}
 use Rattle.bd_wide.proofs.SpelledLemmas.{zero_there, fixed_there, counted_there, scalar_there}
-use Rattle.bd_wide_copy.specs.Copy.{coded_scalar}
+use Rattle.bd_wide_copy.specs.Copy.{number_as}
 use Rattle.bd_wide_copy.specs.Numbers.{scalar_numbers}
 
 -- ---- how many bytes a holder has
@@ -154,7 +154,7 @@ pub record Other (a : Scalar) (value : List ℕ) : Type 0 where
   pub spells : IsScalar a value
   pub written : (name : List ℕ) → written_typed (leaf a) name value ≡ element (leaf a) name value
   pub not_examined : part_of (Kept (scalar_kind a)) ≡ None
-  pub stays : (c : ℤ → Scalar) → coded_scalar c a ≡ a
+  pub stays : (c : ℤ → Scalar) → number_as c a ≡ a
   pub has_none : scalar_numbers a ≡ []
 
 abbrev pub other_place : (a : Scalar) (value : List ℕ) → Other a value → Place (leaf a) value
@@ -200,7 +200,7 @@ code_place code fs body value is short = record {
 -- a scalar by value is a number or any other scalar
 module _ (worth : ElementType → List ℕ → ℤ) where
   other : (a : Scalar) (value : List ℕ) → IsScalar a value → ((name : List ℕ) → written_typed (leaf a) name value ≡ element (leaf a) name value)
-      → part_of (Kept (scalar_kind a)) ≡ None → ((c : ℤ → Scalar) → coded_scalar c a ≡ a) → scalar_numbers a ≡ []
+      → part_of (Kept (scalar_kind a)) ≡ None → ((c : ℤ → Scalar) → number_as c a ≡ a) → scalar_numbers a ≡ []
       → ((z : ℤ) × (a ≡ trees.int64 z) × IsNumber worth z value) ⊎ Other a value
   other a value spells written not_examined stays has_none = inr (record { spells = spells; written = written; not_examined = not_examined; stays = stays; has_none = has_none })
 

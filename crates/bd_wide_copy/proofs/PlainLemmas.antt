@@ -9,12 +9,12 @@ use Rattle.bd_bson_view.specs.declared.raw_parts.ElementType.{ElementType}
 use Rattle.bd_bson_view.specs.declared.raw_parts.ElementType.TheVariants.{Kept}
 use Rattle.bd_bson_view.specs.Unique.{number_length}
 use Rattle.bd_bson_view.specs.Spelling.{long, element, IsScalar, IsValue, AreFields, AreItems, IsDocument, IsValueBy, AreFieldsBy, AreItemsBy, IsDocumentBy, as_int32, as_int64, written_typed, valued}
-use Rattle.bd_wide_copy.specs.Copy.{coded, coded_fields, coded_items, coded_document, int64_of, WholesAreWorth}
+use Rattle.bd_wide_copy.specs.Copy.{coded, coded_fields, coded_items, coded_document, int64_of, number_as, WholesAreWorth}
 use Rattle.bd_wide_copy.proofs.CopyLemmas.{same_depth, same_fields}
 
 module _ (worth : ElementType → List ℕ → ℤ) (f : ℤ → ℤ) (wholes : WholesAreWorth worth f) where
-  abbrev c : ℤ → Scalar
-  c = int64_of f
+  abbrev c : Scalar → Scalar
+  c = number_as (int64_of f)
 
   -- the bytes that spell a value by value, in the same element
   abbrev By : Tree → List ℕ → Type 0

@@ -1,13 +1,7 @@
--- Codes of at most four bytes make no document longer.
+-- Codes that are no longer than the numbers make no document longer.
 use Rattle.std.proofs.Common.{◌≡◌, ℕ, ◌≤◌, List, ◌∷◌, ◌++◌, length, ap, arith, length-append}
-use Rattle.bd_bson_view.specs.Spelling.{string, framed, scoped, NumberKind, as_double, as_int32, as_int64, as_decimal128, number_size}
+use Rattle.bd_bson_view.specs.Spelling.{string, framed, scoped}
 use Rattle.bd_bson_view.proofs.ValueAtLemmas as values
-
-pub least_size : (k : NumberKind) → 4 ≤ number_size k
-least_size as_double = omega arith
-least_size as_int32 = omega arith
-least_size as_int64 = omega arith
-least_size as_decimal128 = omega arith
 
 pub framed_le : (b d v w : List ℕ) → v ≡ framed b → w ≡ framed d → length d ≤ length b → length w ≤ length v
 framed_le b d v w is new le = omega (arith, le, ap (λ (x : List ℕ). length x) is, ap (λ (x : List ℕ). length x) new, values.framed_length b, values.framed_length d)

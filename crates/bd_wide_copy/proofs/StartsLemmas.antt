@@ -15,7 +15,7 @@ use Rattle.bd_bson_check.proofs.FirstFaultLemmas.{guard_ok, IsBytes, IsBytes-tak
 use Rattle.bd_bson_check.proofs.WideLemmas.{document_by_value}
 use Rattle.bd_wide_copy.specs.Dump.{AreJoinedBy, AreDocuments, IsCount, IsDocumentAt}
 use Rattle.bd_wide_copy.specs.Starts.{starts_from, starts_of, have_no_fault}
-use Rattle.bd_wide_copy.specs.Copy.{coded_document, int64_of}
+use Rattle.bd_wide_copy.specs.Copy.{coded_document, int64_of, number_as}
 use Rattle.bd_wide_copy.proofs.DumpLemmas.{five_bytes, stated_there}
 use Rattle.bd_wide_copy.proofs.PlainLemmas.{plain_by}
 
@@ -27,9 +27,9 @@ module _ (worth : ElementType → List ℕ → ℤ) where
       → starts_from (suc n) at bytes ≡ at ∷ starts_from n (at + length prefix) rest
   unfolding starts_from
   starts_step d prefix rest [] n at is splits =
-      absurd (let a = ap (λ (x : List ℕ). length x) splits in omega (arith, a, five_bytes worth d prefix rest is, length-append prefix rest))
+      absurd (let a = ap (λ (x : List ℕ). length x) splits in omega (arith, a, five_bytes (valued worth) d prefix rest is, length-append prefix rest))
   starts_step d prefix rest (b ∷ bytes) n at is splits =
-      let size : stated_length (b ∷ bytes) ≡ length prefix = ap stated_length splits ∙ stated_there worth d prefix rest is in
+      let size : stated_length (b ∷ bytes) ≡ length prefix = ap stated_length splits ∙ stated_there (valued worth) d prefix rest is in
       let after : drop (length prefix) (b ∷ bytes) ≡ rest = ap (drop (length prefix)) splits ∙ drop_at prefix rest (length prefix) refl in
       ap (λ (m : ℕ). at ∷ starts_from n (at + m) (drop m (b ∷ bytes))) size ∙ ap (λ (x : List ℕ). at ∷ starts_from n (at + length prefix) x) after
 
@@ -43,7 +43,7 @@ module _ (worth : ElementType → List ℕ → ℤ) where
   starts_count [] bytes n at j le = ap (λ (x : List ℕ). length (starts_from n at x)) j ∙ ap (λ (x : List ℕ). length x) (starts_end n at)
   starts_count (d ∷ ds) bytes n at j le =
       let size = ap (λ (x : List ℕ). length x) j.4 ∙ length-append j.0 j.1 in
-      let five = five_bytes worth d j.0 j.1 j.2 in
+      let five = five_bytes (valued worth) d j.0 j.1 j.2 in
       elim n as (λ (m : ℕ). length bytes ≤ m → length (starts_from m at bytes) ≡ suc (length ds)) [
         | zero ↦ λ e. absurd (omega (arith, e, size, five))
         | suc m ↦ λ e. ap (λ (x : List ℕ). length x) (starts_step d j.0 j.1 bytes m at j.2 j.4) ∙ ap suc (starts_count ds j.1 m (at + length j.0) j.3 (omega (arith, e, size, five)))
@@ -60,7 +60,7 @@ module _ (worth : ElementType → List ℕ → ℤ) where
   starts_begin [] whole bytes n at j le here i lt = absurd (omega (arith, lt))
   starts_begin (d ∷ ds) whole bytes n at j le here i lt =
       let size = ap (λ (x : List ℕ). length x) j.4 ∙ length-append j.0 j.1 in
-      let five = five_bytes worth d j.0 j.1 j.2 in
+      let five = five_bytes (valued worth) d j.0 j.1 j.2 in
       let after : drop (at + length j.0) whole ≡ j.1 = sym (drop-drop (length j.0) at whole) ∙ ap (drop (length j.0)) (here ∙ j.4) ∙ drop_at j.0 j.1 (length j.0) refl in
       elim n as (λ (m : ℕ). length bytes ≤ m → Begins (d ∷ ds) whole bytes (starts_from m at bytes) i) [
         | zero ↦ λ e. absurd (omega (arith, e, size, five))
@@ -214,7 +214,7 @@ module _ (bytes starts : List ℕ) (fits : IsBytes bytes) (are : starts ≡ star
       let b = begins_at no_worth d.0 d.1 n lt in
       let start : ℕ = get_or starts n 0 in
       let long : 5 ≤ length (drop start bytes) =
-      omega (arith, ap (λ (x : List ℕ). length x) b.5, length-append b.1 b.2, five_bytes no_worth b.0 b.1 b.2 b.4) in
+      omega (arith, ap (λ (x : List ℕ). length x) b.5, length-append b.1 b.2, five_bytes (valued no_worth) b.0 b.1 b.2 b.4) in
       record {
         inside = omega (arith, long, length-drop start bytes);
         framed = framed_some start (drop start bytes) long (all_at (λ s. is_none (frame_fault_under All s (drop s bytes))) starts n lt sound);
@@ -228,7 +228,7 @@ module _ (bytes starts : List ℕ) (fits : IsBytes bytes) (are : starts ≡ star
       → document ≡ take size (drop (get_or starts n 0) bytes) → IsDocumentAt bytes n document
   document_at n size document lt stated is worth ds j =
       let b = begins_at worth ds j n lt in
-      let same : size ≡ length b.1 = stated ∙ ap stated_length b.5 ∙ stated_there worth b.0 b.1 b.2 b.4 in
+      let same : size ≡ length b.1 = stated ∙ ap stated_length b.5 ∙ stated_there (valued worth) b.0 b.1 b.2 b.4 in
       let all : document ≡ b.1 = is ∙ ap (take size) b.5 ∙ take_at b.1 b.2 size (sym same) in
       (b.0, b.3, subst (IsDocumentBy (valued worth) b.0) (sym all) b.4, b.6, b.2, b.7, b.8 ∙ ap (λ (x : List ℕ). b.6 ++ (x ++ b.2)) (sym all))
 
@@ -274,9 +274,9 @@ plain_clean [] whole bytes n at j le here =
     ap (λ (x : List ℕ). have_no_fault Named whole (starts_from n at x)) j ∙ ap (have_no_fault Named whole) (starts_end no_worth n at)
 plain_clean (d ∷ ds) whole bytes n at j le here =
     let by = plain_by no_worth no_code ((λ z f. refl), (λ z f. refl)) d j.0 j.2 in
-    let e = coded_document (int64_of no_code) d in
+    let e = coded_document (number_as (int64_of no_code)) d in
     let size = ap (λ (x : List ℕ). length x) j.4 ∙ length-append j.0 j.1 in
-    let five = five_bytes no_worth e j.0 j.1 by in
+    let five = five_bytes (valued no_worth) e j.0 j.1 by in
     let after : drop (at + length j.0) whole ≡ j.1 = sym (drop-drop (length j.0) at whole) ∙ ap (drop (length j.0)) (here ∙ j.4) ∙ drop_at j.0 j.1 (length j.0) refl in
     let first : is_none (frame_fault_under Named at (drop at whole)) ≡ true = ap is_none (plain_step whole (drop at whole) at d j.0 j.1 j.2 (here ∙ j.4)) in
     elim n as (λ (m : ℕ). length bytes ≤ m → have_no_fault Named whole (starts_from m at bytes) ≡ true) [
@@ -302,7 +302,7 @@ plain_exactly bytes starts fits are plain is short =
 few_documents : (worth : ElementType → List ℕ → ℤ) (ds : List Doc) (bytes : List ℕ) → AreJoinedBy (valued worth) ds bytes → length ds ≤ length bytes
 few_documents worth [] bytes j = omega arith
 few_documents worth (d ∷ ds) bytes j =
-    omega (arith, few_documents worth ds j.1 j.3, five_bytes worth d j.0 j.1 j.2, ap (λ (x : List ℕ). length x) j.4 ∙ length-append j.0 j.1)
+    omega (arith, few_documents worth ds j.1 j.3, five_bytes (valued worth) d j.0 j.1 j.2, ap (λ (x : List ℕ). length x) j.4 ∙ length-append j.0 j.1)
 
 pub few_starts : (bytes starts : List ℕ) → IsBytes bytes → starts ≡ starts_of bytes → have_no_fault All bytes starts ≡ true → length starts ≤ length bytes
 few_starts bytes starts fits are sound =
@@ -315,7 +315,7 @@ joined_by [] bytes j = ([], j, refl)
 joined_by (d ∷ ds) bytes j =
     let by = plain_by no_worth no_code ((λ z f. refl), (λ z f. refl)) d j.0 j.2 in
     let more = joined_by ds j.1 j.3 in
-    (coded_document (int64_of no_code) d ∷ more.0, (j.0, j.1, by, more.1, j.4), ap suc more.2)
+    (coded_document (number_as (int64_of no_code)) d ∷ more.0, (j.0, j.1, by, more.1, j.4), ap suc more.2)
 
 pub plain_count : (es : List Doc) (bytes : List ℕ) → AreJoined es bytes → IsCount bytes (length es)
 plain_count es bytes j worth ds are =

@@ -6,10 +6,11 @@ use Rattle.bd_bson_view.specs.declared.raw_parts.ElementType.{ElementType}
 use Rattle.bd_bson_check.specs.{Dump.IsDump, Dump.frame_fault_under, Fault.HasNoOffset, Fault.IsWantOfMemory, Fault.fault_view}
 use Rattle.bd_bson_check.specs.declared.fault.{Fault.Fault, FaultKind.FaultKind}
 use Rattle.bd_bson_check.specs.declared.profile.Profile.TheVariants.{All}
-use Rattle.bd_wide_copy.specs.{Copy.coded_document, Copy.int32_of, Numbers.document_numbers}
+use Rattle.bd_wide_copy.specs.{Classes.classed, Copy.coded_document, Copy.number_coded, Numbers.document_numbers}
 use Rattle.bd_wide_rank.specs.{Rank.HaveSame, Worth.worth}
 use Rattle.bd_wide_copy.specs.Starts.{have_no_fault, starts_of}
 use Rattle.bd_wide_copy.specs.declared.dump.WideDump.{WideDump}
+use Rattle.bd_wide_copy.specs.declared.longs.Longs.{Longs}
 use Rattle.bd_wide_copy.specs.declared.starts.Starts.{Starts}
 
 -- The bytes are these documents by the grammar, one after the other with nothing between.
@@ -33,14 +34,15 @@ IsDocumentAt bytes n document = (worth : ElementType → List ℕ → ℤ) (ds :
     → (d : Doc) × (slice_get ds n ≡ Some d) × IsDocumentBy (valued worth) d document
     × (before : List ℕ) × (after : List ℕ) × AreJoinedBy (valued worth) (take n ds) before × (bytes ≡ before ++ (document ++ after))
 
--- the documents, each with a code in place of each number
-abbrev pub coded_documents : (ℤ → Scalar) → List Doc → List Doc
-coded_documents c ds = map (coded_document c) ds
+-- the documents, each with another scalar in place of each scalar
+abbrev pub coded_documents : (Scalar → Scalar) → List Doc → List Doc
+coded_documents f ds = map (coded_document f) ds
 
--- Of whatever documents the bytes are by value: this is the dump of the documents with codes, in the same order, and it is no longer.
-abbrev pub IsCopyOfDump : (ElementType → List ℕ → ℤ) → (ℤ → ℤ) → List ℕ → List ℕ → Type 0
-IsCopyOfDump worth code bytes new = (ds : List Doc) → AreJoinedBy (valued worth) ds bytes
-    → IsDump (coded_documents (int32_of code) ds) new × (length new ≤ length bytes)
+-- Of whatever documents the bytes are by value and class: this is the dump of the documents with codes, in the same order, and it is
+-- no longer.
+abbrev pub IsCopyOfDump : Longs → (ElementType → List ℕ → ℤ) → (ℤ → ℤ) → List ℕ → List ℕ → Type 0
+IsCopyOfDump longs worth code bytes new = (ds : List Doc) → AreJoinedBy (classed longs worth) ds bytes
+    → IsDump (coded_documents (number_coded code) ds) new × (length new ≤ length bytes)
 
 -- Of whatever documents the bytes are by value: these are the numbers in them, perhaps not as often, and no others.
 abbrev pub AreNumbersOfAll : List ℕ → List ℤ → Type 0

@@ -1,3 +1,4 @@
+pub mod Classes
 pub mod Copy
 pub mod Numbers
 pub mod Starts

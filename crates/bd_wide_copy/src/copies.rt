@@ -11,6 +11,7 @@ ghost use Rattle.bd_wide_copy.specs.inside.Starts.{frame_size as frame_size_of};
 ghost use Rattle.bd_wide_rank.specs.{Rank.HaveSame, Table.collected, Worth.worth_of};
 
 use crate::copy::{Codes, write_copy};
+use crate::longs::Longs;
 use crate::numbers::collect_numbers;
 use bd_bson_view::raw_parts as raw;
 use bd_value::NoMemory;
@@ -37,18 +38,19 @@ fn frame_size(bytes: &[u8]) -> Option<usize>
 /// Appends the copy of each document of a dump. After `NoMemory`, `out` may have more bytes.
 pub(crate) fn write_copies<C: Codes>(
     codes: &C,
+    longs: Longs,
     bytes: &[u8],
     out: &mut Vec<u8>,
 ) -> Result<(), NoMemory>
     requires { (z : ℤ) → FitsSigned w32 (C.code_of codes.now z) }
-    ensures ok { OnOk result (Adds (AreCopies (C.worth_of codes.now)
+    ensures ok { OnOk result (Adds (AreCopies longs (C.worth_of codes.now)
         (C.code_of codes.now) bytes.now) out.old.items out.new.items) }
     ensures prefix { OnErr result (StartsWith out.new.items out.old.items) }
 {
     let mut rest = bytes;
     while let Some(size) = frame_size(rest) {
         let (document, after) = rest.split_at(size);
-        write_copy(codes, document, out)?;
+        write_copy(codes, longs, document, out)?;
         rest = after;
     }
     Ok(())

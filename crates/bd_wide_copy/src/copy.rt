@@ -1,13 +1,14 @@
-//! A copy of a document, with an int32 in place of each number.
+//! A copy of a document, with an int32 or an int64 in place of each number.
 
 ghost use Rattle.std.specs.Prelude.{◌≡◌, ◌≤◌, ◌++◌, ◌∷◌, ℕ, ℤ, FitsSigned, List, length, drop, OnErr, OnOk};
-ghost use Rattle.std.specs.Int.{w32, cast_unsigned};
+ghost use Rattle.std.specs.Int.{w32, w64, cast_unsigned};
 ghost use Rattle.std.specs.Io.{StartsWith};
-ghost use Rattle.bd_bson_view.specs.Spelling.{number as number_bytes};
+ghost use Rattle.bd_bson_view.specs.Spelling.{long as long_bytes, number as number_bytes};
 ghost use Rattle.bd_bson_view.specs.declared.raw_parts.ElementType as element_type;
 ghost use Rattle.bd_wide.specs.Rewritten.{Adds, least};
-ghost use Rattle.bd_wide_copy.specs.Copy.{IsCodeOf, IsCopy, int32_of};
+ghost use Rattle.bd_wide_copy.specs.Copy.{IsCodeIn, IsCopy};
 
+use crate::longs::Longs;
 use bd_bson_view::ElementType;
 use bd_value::NoMemory;
 use bd_wide::{NumberWriter, write_rewritten};
@@ -29,11 +30,12 @@ pub trait Codes {
 #[derive(Drop)]
 struct Copier<'a, C> {
     codes: &'a C,
+    longs: Longs,
 }
 
 impl<'a, C: Codes> NumberWriter for Copier<'a, C> {
-    ghost is_written = { λ copier. IsCodeOf (C.worth_of copier.codes.now)
-        (int32_of (C.code_of copier.codes.now)) };
+    ghost is_written = { λ copier. IsCodeIn copier.longs (C.worth_of copier.codes.now)
+        (C.code_of copier.codes.now) };
 
     #[tactic(auto, using(bd_value::proofs::PrefixLemmas::prefixes))]
     fn element(
@@ -43,7 +45,12 @@ impl<'a, C: Codes> NumberWriter for Copier<'a, C> {
         value: &[u8],
         out: &mut Vec<u8>,
     ) -> Result<(), NoMemory> {
-        put_int32(head, self.codes.code(typed, value), out)
+        let code = self.codes.code(typed, value);
+        if self.longs.is_long(typed) {
+            put_int64(head, code as i64, out)
+        } else {
+            put_int32(head, code, out)
+        }
     }
 }
 
@@ -61,6 +68,29 @@ fn put_int32(head: &[u8], z: i32, out: &mut Vec<u8>) -> Result<(), NoMemory>
     write_number(z.cast_unsigned(), out)
 }
 
+/// Appends an element with an int64, under the name of an element: BSON 1.1, element 0x12.
+#[tactic(auto, using(bd_value::proofs::PrefixLemmas::prefixes))]
+fn put_int64(head: &[u8], z: i64, out: &mut Vec<u8>) -> Result<(), NoMemory>
+    requires { 2 ≤ length head.now }
+    ensures ok { OnOk result (out.new.items ≡ out.old.items
+        ++ 18 ∷ (drop 1 head.now ++ long_bytes (cast_unsigned w64 z))) }
+    ensures prefix { OnErr result (StartsWith out.new.items out.old.items) }
+{
+    let (_, name) = head.split_at(1);
+    out.extend_from_slice(&[0x12])?;
+    out.extend_from_slice(name)?;
+    write_long(z.cast_unsigned(), out)
+}
+
+/// Appends a number as eight bytes.
+#[tactic(auto, unfolding(bd_bson_view::specs::Spelling::long))]
+fn write_long(n: u64, out: &mut Vec<u8>) -> Result<(), NoMemory>
+    ensures ok { OnOk result (out.new.items ≡ out.old.items ++ long_bytes n) }
+    ensures err { OnErr result (out.new.items ≡ out.old.items) }
+{
+    out.extend_from_slice(&n.to_le_bytes())
+}
+
 /// Appends a number as four bytes.
 #[tactic(auto, unfolding(bd_bson_view::specs::Spelling::number))]
 fn write_number(n: u32, out: &mut Vec<u8>) -> Result<(), NoMemory>
@@ -70,15 +100,20 @@ fn write_number(n: u32, out: &mut Vec<u8>) -> Result<(), NoMemory>
     out.extend_from_slice(&n.to_le_bytes())
 }
 
-/// Appends a copy of a document of all types, with the code of each number, as an int32, in its place.
+/// Appends a copy of a document of all types, with the code of each number in its place, as an int64 or an int32 by its type.
 ///
 /// # Errors
 /// On `NoMemory`, `out` is unchanged.
-pub fn write_copy<C: Codes>(codes: &C, document: &[u8], out: &mut Vec<u8>) -> Result<(), NoMemory>
+pub fn write_copy<C: Codes>(
+    codes: &C,
+    longs: Longs,
+    document: &[u8],
+    out: &mut Vec<u8>,
+) -> Result<(), NoMemory>
     requires { (z : ℤ) → FitsSigned w32 (C.code_of codes.now z) }
-    ensures ok { OnOk result (Adds (IsCopy (C.worth_of codes.now)
+    ensures ok { OnOk result (Adds (IsCopy longs (C.worth_of codes.now)
         (C.code_of codes.now) document.now) out.old.items out.new.items) }
     ensures err { OnErr result (out.new.items ≡ out.old.items) }
 {
-    write_rewritten(&Copier { codes }, document, out)
+    write_rewritten(&Copier { codes, longs }, document, out)
 }

@@ -7,6 +7,7 @@ ghost use Rattle.bd_wide_copy.specs.Starts.{have_no_fault, starts_of};
 
 use crate::copies::{add_all, write_copies};
 use crate::copy::Codes;
+use crate::longs::Longs;
 use crate::starts::Starts;
 use bd_bson_view::raw_parts as raw;
 use bd_value::NoMemory;
@@ -66,19 +67,24 @@ impl WideDump {
         self.plain
     }
 
-    /// Appends the copy of each document, in order: the codes of its numbers, as int32, in place of the numbers.
+    /// Appends the copy of each document, in order: the codes of its numbers in place of the numbers, as int64 or int32 by their types.
     ///
     /// # Errors
     /// On `NoMemory`, `out` is unchanged.
-    pub fn write_copy<C: Codes>(&self, codes: &C, out: &mut Vec<u8>) -> Result<(), NoMemory>
+    pub fn write_copy<C: Codes>(
+        &self,
+        codes: &C,
+        longs: Longs,
+        out: &mut Vec<u8>,
+    ) -> Result<(), NoMemory>
         requires { (z : ℤ) → FitsSigned w32 (C.code_of codes.now z) }
-        ensures ok { OnOk result (Adds (IsCopyOfDump (C.worth_of codes.now)
+        ensures ok { OnOk result (Adds (IsCopyOfDump longs (C.worth_of codes.now)
             (C.code_of codes.now) (bytes_of self.now)) out.old.items out.new.items) }
         ensures err { OnErr result (out.new.items ≡ out.old.items) }
     {
         out.reserve(self.bytes.len())?;
         let before = out.len();
-        let written = write_copies(codes, &self.bytes, out);
+        let written = write_copies(codes, longs, &self.bytes, out);
         if written.is_err() {
             out.truncate(before);
         }

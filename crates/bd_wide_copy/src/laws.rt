@@ -3,20 +3,20 @@
 ghost use Rattle.std.specs.Prelude.{List, ℕ, ℤ, ◌≤◌, length};
 ghost use Rattle.bd_value.specs.Limits.{longest_document};
 ghost use Rattle.bd_value.specs.Tree.{Doc, Scalar};
-ghost use Rattle.bd_bson_view.specs.Spelling.{CanSpell, IsDocument, IsDocumentBy, scalar_bytes, valued};
+ghost use Rattle.bd_bson_view.specs.Spelling.{CanSpell, IsDocument, IsDocumentBy, valued};
 ghost use Rattle.bd_bson_view.specs.declared.raw_parts.ElementType.{ElementType};
 ghost use Rattle.bd_wide.specs.Rewritten.{IsRewritten};
-ghost use Rattle.bd_wide_copy.specs.Copy.{IsCodeOf, WholesAreWorth, coded_document, int64_of};
+ghost use Rattle.bd_wide_copy.specs.Copy.{IsCodeOf, IsNoLonger, WholesAreWorth, coded_document, int64_of, number_as};
 
 /// If bytes are a document by value, whatever a number is worth, then what is written for them, with a code for each number, is
-/// the document with these codes, unless it is too long. Codes that have four bytes each make no document longer.
+/// the document with these codes, unless it is too long. Codes that are no longer than the numbers make no document longer.
 pub fn copies_are_spelled()
     ensures spelled { (worth : ElementType → List ℕ → ℤ) (c : ℤ → Scalar) →
         ((z : ℤ) → CanSpell (c z)) → (d : Doc) (bytes new : List ℕ) →
         IsDocumentBy (valued worth) d bytes → IsRewritten (IsCodeOf worth c) bytes new →
-        length new ≤ longest_document → IsDocument (coded_document c d) new }
+        length new ≤ longest_document → IsDocument (coded_document (number_as c) d) new }
     ensures no_longer { (worth : ElementType → List ℕ → ℤ) (c : ℤ → Scalar) →
-        ((z : ℤ) → CanSpell (c z)) → ((z : ℤ) → length (scalar_bytes (c z)) ≤ 4) →
+        ((z : ℤ) → CanSpell (c z)) → IsNoLonger worth c →
         (d : Doc) (bytes new : List ℕ) →
         IsDocumentBy (valued worth) d bytes → IsRewritten (IsCodeOf worth c) bytes new →
         length new ≤ length bytes }
@@ -26,5 +26,5 @@ pub fn copies_are_spelled()
 pub fn plain_documents_by_value()
     ensures { (worth : ElementType → List ℕ → ℤ) (f : ℤ → ℤ) → WholesAreWorth worth f →
         (d : Doc) (bytes : List ℕ) → IsDocument d bytes →
-        IsDocumentBy (valued worth) (coded_document (int64_of f) d) bytes }
+        IsDocumentBy (valued worth) (coded_document (number_as (int64_of f)) d) bytes }
 {}

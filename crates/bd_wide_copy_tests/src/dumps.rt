@@ -1,7 +1,7 @@
 //! Dumps of several documents.
 
 use crate::copies::{COPY, DOCUMENT, Seven};
-use bd_wide_copy::{read_wide_dump, write_copy};
+use bd_wide_copy::{Longs, read_wide_dump, write_copy};
 use std::test::Fail;
 
 /// The document of all types, the empty document, and {"a":int32 1}.
@@ -27,7 +27,7 @@ fn three_documents(rt: HostRuntime) -> Result<(), Fail> {
     wanted.extend_from_slice(COPY)?;
     wanted.extend_from_slice(b"\x05\0\0\0\0\x0c\0\0\0\x10a\0\x07\0\0\0\0")?;
     let mut out = Vec::new(alloc);
-    dump.write_copy(&Seven, &mut out)?;
+    dump.write_copy(&Seven, Longs::none(), &mut out)?;
     assert!(rt; out.as_slice() == wanted.as_slice());
     Ok(())
 }
@@ -73,7 +73,7 @@ fn ranks(rt: HostRuntime) -> Result<(), Fail> {
     assert!(rt; count == 2);
     table.codes_fit();
     let mut copy = Vec::new(alloc);
-    dump.write_copy(&table, &mut copy)?;
+    dump.write_copy(&table, Longs::none(), &mut copy)?;
     let wanted =
         b"\x0c\0\0\0\x10d\0\x01\0\0\0\0\x0c\0\0\0\x10a\0\x03\0\0\0\0\x0c\0\0\0\x10d\0\x01\0\0\0\0";
     assert!(rt; copy.as_slice() == wanted.as_slice());
@@ -81,6 +81,7 @@ fn ranks(rt: HostRuntime) -> Result<(), Fail> {
     let mut query = Vec::new(alloc);
     write_copy(
         &table,
+        Longs::none(),
         b"\x10\0\0\0\x01d\0\0\0\0\0\0\0\xfc\x3f\0",
         &mut query,
     )?;

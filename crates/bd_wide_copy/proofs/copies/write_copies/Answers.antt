@@ -7,7 +7,7 @@ loop-size-preserved g c =
     let l = c.loop-size in
     let e = c.in_ok-write_copy.ensures.ok in
     record {
-      comes = copied_on (g.C.Codes.worth_of c.args.codes.now) (g.C.Codes.code_of c.args.codes.now) c.args.bytes.now l.rest.now c.args.out.now.items l.out.items
+      comes = copied_on c.args.longs (g.C.Codes.worth_of c.args.codes.now) (g.C.Codes.code_of c.args.codes.now) c.args.bytes.now l.rest.now c.args.out.now.items l.out.items
           c.write_copy.new.out.items c.split_at.result.0.now c.split_at.result.1.now c.in-Some.size l.invariant.comes c.in-Some.ensures.gives
           c.split_at.ensures.front c.split_at.ensures.back e;
       begins = prefix_more c.args.out.now.items l.out.items e.0 c.write_copy.new.out.items l.invariant.begins e.2;
@@ -15,5 +15,5 @@ loop-size-preserved g c =
 
 pub returns-clause-ok : goal.returns-clause-ok
 returns-clause-ok g c =
-    all_copied (g.C.Codes.worth_of c.args.codes.now) (g.C.Codes.code_of c.args.codes.now) c.args.bytes.now c.loop-size.rest.now c.args.out.now.items c.loop-size.out.items
+    all_copied c.args.longs (g.C.Codes.worth_of c.args.codes.now) (g.C.Codes.code_of c.args.codes.now) c.args.bytes.now c.loop-size.rest.now c.args.out.now.items c.loop-size.out.items
     c.loop-size.invariant.comes c.in_default.ensures.gives
