@@ -1,4 +1,3 @@
-pub mod AlikeLemmas
 pub mod ExcludeLemmas
 pub mod NameLemmas
 pub mod NanLemmas
@@ -9,3 +8,4 @@ pub mod RoleLemmas
 pub mod StepLemmas
 pub mod TagLemmas
 pub mod TwiceLemmas
+pub mod TypesLemmas

@@ -1,4 +1,5 @@
 pub mod Coded
 pub mod Nan
 pub mod Tagged
+pub mod Types
 pub mod inside

@@ -1,49 +1,147 @@
 -- `$type` and the four types of numbers: double, int, long and decimal (MongoDB manual, "$type").
-use Rattle.std.specs.Prelude.{ℕ, ℤ, pos, Bool, true, false, ◌&&◌, ◌||◌, not, List, codes, if◌then◌else◌}
-use Rattle.std.specs.{List.list_any, Ordering.int_eq, Str.bytes_eq}
+use Rattle.std.specs.Prelude.{ℕ, ℤ, pos, Bool, true, false, ◌&&◌, ◌||◌, not, List, Option, Some, None, codes, if◌then◌else◌}
+use Rattle.std.specs.{Bool.beq, List.list_any, Ordering.int_eq, Str.bytes_eq}
+use Rattle.bd_value.specs.declared.node.Kind.TheVariants as kinds
 use Rattle.bd_value.specs.Tree.{int32, int64, text, Tree, leaf, doc, array, code_scope, Items, no_items, item, elements_in}
 use Rattle.bd_value.specs.Tree.{Fields, no_fields, field}
+use Rattle.bd_bson_view.specs.declared.raw_parts.ElementType.{ElementType}
+use Rattle.bd_bson_view.specs.declared.raw_parts.ElementType.TheVariants as elements
+use Rattle.bd_wide_copy.specs.Classes.{is_long}
+use Rattle.bd_wide_copy.specs.declared.longs.Longs.{Longs}
+use Rattle.bd_wide_query.specs.declared.types.NumberType.{NumberType}
+use Rattle.bd_wide_query.specs.declared.types.NumberType.TheVariants as types
 
--- whether a value is the number or the name of a type; `number` is the name of each of the four
-abbrev pub is_type : ℤ → List ℕ → Tree → Bool
-is_type code name (leaf (text s)) = bytes_eq s name || bytes_eq s (codes "number")
-is_type code name (leaf (int32 z)) = int_eq z code
-is_type code name (leaf (int64 z)) = int_eq z code
-is_type code name t = false
+-- ---- which types an operand names
 
--- whether an operand of `$type`, a type or an array of types, names the type with this number and name
-abbrev pub names_type : ℤ → List ℕ → Tree → Bool
-names_type code name t = is_type code name t || list_any (is_type code name) (elements_in t)
+-- the number of a type
+abbrev pub type_code : NumberType → ℤ
+type_code types.Double = pos 1
+type_code types.Int = pos 16
+type_code types.Long = pos 18
+type_code types.Decimal = pos 19
 
--- whether an operand of `$type` names all four types of numbers
-abbrev pub names_all_numbers : Tree → Bool
-names_all_numbers t = (names_type (pos 1) (codes "double") t && names_type (pos 16) (codes "int") t)
-    && (names_type (pos 18) (codes "long") t && names_type (pos 19) (codes "decimal") t)
+-- the name of a type
+abbrev pub type_name : NumberType → List ℕ
+type_name types.Double = codes "double"
+type_name types.Int = codes "int"
+type_name types.Long = codes "long"
+type_name types.Decimal = codes "decimal"
 
--- whether an operand of `$type` names one of the four types of numbers
-abbrev pub names_a_number : Tree → Bool
-names_a_number t = (names_type (pos 1) (codes "double") t || names_type (pos 16) (codes "int") t)
-    || (names_type (pos 18) (codes "long") t || names_type (pos 19) (codes "decimal") t)
+-- the type in a document
+abbrev pub element_type : NumberType → ElementType
+element_type types.Double = elements.Double
+element_type types.Int = elements.Kept kinds.Int32
+element_type types.Long = elements.Kept kinds.Int64
+element_type types.Decimal = elements.Decimal128
 
--- whether the value of a name, if that is `$type`, names all types of numbers or none
-abbrev pub is_alike_at : List ℕ → Tree → Bool
-is_alike_at name t = if bytes_eq name (codes "$type") then names_all_numbers t || not (names_a_number t) else true
+-- whether a value is the number or the name of a type alone
+abbrev pub is_alone : NumberType → Tree → Bool
+is_alone k (leaf (text s)) = bytes_eq s (type_name k)
+is_alone k (leaf (int32 z)) = int_eq z (type_code k)
+is_alone k (leaf (int64 z)) = int_eq z (type_code k)
+is_alone k t = false
 
--- whether each `$type` in a value, at any level, names all types of numbers or none
+-- whether a value is `number`, the name of each of the four
+abbrev pub is_number_name : Tree → Bool
+is_number_name (leaf (text s)) = bytes_eq s (codes "number")
+is_number_name t = false
+
+-- whether a value is the number or the name of a type
+abbrev pub is_type : NumberType → Tree → Bool
+is_type k t = is_alone k t || is_number_name t
+
+-- whether an operand of `$type`, a type or an array of types, names a type
+abbrev pub names_type : NumberType → Tree → Bool
+names_type k t = is_type k t || list_any (is_type k) (elements_in t)
+
+-- ---- whether a query tells two types apart
+
+-- whether the value of a name, if that is `$type`, names both types or neither
+abbrev pub is_alike_at : NumberType → NumberType → List ℕ → Tree → Bool
+is_alike_at j k name t = if bytes_eq name (codes "$type") then beq (names_type j t) (names_type k t) else true
+
+-- whether each `$type` in a value, at any level, names both types or neither
 abbrev mutual
   -- in a value
-  pub is_alike : Tree → Bool
-  is_alike (leaf s) = true
-  is_alike (doc fs) = fields_are_alike fs
-  is_alike (array ts) = items_are_alike ts
-  is_alike (code_scope s fs) = fields_are_alike fs
+  pub is_alike : NumberType → NumberType → Tree → Bool
+  is_alike j k (leaf s) = true
+  is_alike j k (doc fs) = fields_are_alike j k fs
+  is_alike j k (array ts) = items_are_alike j k ts
+  is_alike j k (code_scope s fs) = fields_are_alike j k fs
 
   -- in fields
-  pub fields_are_alike : Fields → Bool
-  fields_are_alike no_fields = true
-  fields_are_alike (field n t fs) = (is_alike_at n t && is_alike t) && fields_are_alike fs
+  pub fields_are_alike : NumberType → NumberType → Fields → Bool
+  fields_are_alike j k no_fields = true
+  fields_are_alike j k (field n t fs) = (is_alike_at j k n t && is_alike j k t) && fields_are_alike j k fs
 
   -- in the elements of an array
-  pub items_are_alike : Items → Bool
-  items_are_alike no_items = true
-  items_are_alike (item t ts) = is_alike t && items_are_alike ts
+  pub items_are_alike : NumberType → NumberType → Items → Bool
+  items_are_alike j k no_items = true
+  items_are_alike j k (item t ts) = is_alike j k t && items_are_alike j k ts
+
+-- ---- two classes of types
+
+-- the types that some `$type` of a query tells from int32
+abbrev pub longs_of : Fields → Longs
+longs_of fs = record {
+  double = not (fields_are_alike types.Int types.Double fs);
+  int64 = not (fields_are_alike types.Int types.Long fs);
+  decimal128 = not (fields_are_alike types.Int types.Decimal fs);
+}
+
+-- whether no `$type` of a query tells the two types apart, if both are long
+abbrev pub is_one_class : Longs → NumberType → NumberType → Fields → Bool
+is_one_class longs j k fs = if is_long longs (element_type j) && is_long longs (element_type k) then fields_are_alike j k fs else true
+
+-- whether two classes of types are enough for a query: no `$type` in it tells two long types apart, nor two others
+abbrev pub has_two_classes : Fields → Bool
+has_two_classes fs = let longs = longs_of fs in
+    (is_one_class longs types.Double types.Long fs && is_one_class longs types.Double types.Decimal fs)
+    && is_one_class longs types.Long types.Decimal fs
+
+-- whether a query tells none of the four types apart
+abbrev pub has_one_class : Fields → Bool
+has_one_class fs = (fields_are_alike types.Int types.Double fs && fields_are_alike types.Int types.Long fs)
+    && fields_are_alike types.Int types.Decimal fs
+
+-- ---- `$type` by classes
+
+-- whether some types are long
+abbrev pub has_longs : Longs → Bool
+has_longs longs = longs.double || longs.int64 || longs.decimal128
+
+-- `long` or `int` in place of the number or the name of a type
+abbrev pub class_name : Longs → NumberType → List ℕ
+class_name longs k = if is_long longs (element_type k) then codes "long" else codes "int"
+
+-- the type that a value names alone
+abbrev pub type_alone : Tree → Option NumberType
+type_alone t =
+    if is_alone types.Double t then Some types.Double
+    else if is_alone types.Int t then Some types.Int
+    else if is_alone types.Long t then Some types.Long
+    else if is_alone types.Decimal t then Some types.Decimal
+    else None
+
+-- the name of its class in place of a type, if there is one; `number` and other types stay
+abbrev pub class_in_place : Longs → Tree → Option NumberType → Tree
+class_in_place longs t None = t
+class_in_place longs t (Some k) = leaf (text (class_name longs k))
+
+-- a member of an operand of `$type`, by classes; if there is one class alone it stays
+abbrev pub type_by_class : Longs → Tree → Tree
+type_by_class longs t = if has_longs longs then class_in_place longs t (type_alone t) else t
+
+-- an operand of `$type`, a type or an array of types, by classes
+abbrev mutual
+  -- an operand
+  pub types_by_class : Longs → Tree → Tree
+  types_by_class longs (leaf s) = type_by_class longs (leaf s)
+  types_by_class longs (doc fs) = doc fs
+  types_by_class longs (array ts) = array (each_by_class longs ts)
+  types_by_class longs (code_scope s fs) = code_scope s fs
+
+  -- the elements of an array
+  pub each_by_class : Longs → Items → Items
+  each_by_class longs no_items = no_items
+  each_by_class longs (item t ts) = item (types_by_class longs t) (each_by_class longs ts)

@@ -1,4 +1,3 @@
 pub mod Coding
 pub mod Read
 pub mod Role
-pub mod TypesAlike

@@ -9,20 +9,24 @@ ghost use Rattle.bd_value.specs.View.{kind_of, node_parts, node_tree, pairs, tre
 ghost use Rattle.bd_bson_view.specs.Spelling.{is_holder};
 ghost use Rattle.bd_wide_number.specs.declared.number.Number.TheVariants.{Decimal128, Double, Whole};
 ghost use Rattle.bd_wide_rank.specs.{Rank.code, Table.worths, Worth.worth_of};
+ghost use Rattle.bd_wide_copy.specs.declared.longs.Longs.{Longs};
 ghost use Rattle.bd_wide_order.specs.Renumber.{renumber};
 ghost use Rattle.bd_wide_query.specs.Coded.{coded_query};
 ghost use Rattle.bd_wide_query.specs.Tagged.{tag, tagged_number, next_number};
 ghost use Rattle.bd_wide_query.specs.inside.Coding.{codes_of_tags, GivesItems, GivesPairs, GivesValue, HasSameTags, IsBeside};
-ghost use Rattle.bd_wide_query.specs.inside.Role.{at_role};
+ghost use Rattle.bd_wide_query.specs.inside.Role.{at_role, kept_at};
 
 use crate::role::{Pairs, Role};
+use crate::types::class_in;
 use bd_value::{Document, Kind, NoMemory, Node, Reading, Scalar, Tree, TreeParts, Value, to_value};
+use bd_wide_copy::Longs;
 use bd_wide_number::Number;
 use bd_wide_rank::Table;
 use std::alloc::Global;
 
-/// The document of a query with the code of each number that it compares with; the operands of `$size`, `$exists` and `$type`
-/// stay. None if a double or a decimal128 is where nothing is compared with it, as in `{"a":{"$size":2.0}}`.
+/// The document of a query with the code of each number that it compares with, and the class of each type of numbers in a `$type`; the
+/// operands of `$size` and `$exists` stay. None if a double or a decimal128 is where nothing is compared with it, as in
+/// `{"a":{"$size":2.0}}`.
 ///
 /// In `wholes` the int32 0 is in place of each double and decimal128, in `texts` the empty text; these are the `numbers`, in order.
 pub fn code_query(
@@ -31,15 +35,16 @@ pub fn code_query(
     texts: &Document,
     numbers: &[Number],
     table: &Table,
+    longs: Longs,
 ) -> Result<Option<Document>, NoMemory>
-    ensures { let coded = coded_query (worths table.now) numbers.now
+    ensures { let coded = coded_query (worths table.now) longs numbers.now
         (pairs wholes.now) (pairs texts.now) in
         IfOk result (λ o. MatchOption o (Fits (doc (fields_of coded)) → ⊥) (λ d. pairs d ≡ coded)) }
 {
     let mut rest = Rest { numbers };
     let whole = Tree::Doc(wholes).parts();
     let text = Tree::Doc(texts).parts();
-    code_pairs(alloc, Pairs::Filter, whole, text, table, &mut rest)
+    code_pairs(alloc, Pairs::Filter, whole, text, table, longs, &mut rest)
 }
 
 /// The doubles and decimal128 of a query that are not coded yet.
@@ -72,9 +77,10 @@ fn code_pairs(
     wholes: TreeParts<'_>,
     texts: TreeParts<'_>,
     table: &Table,
+    longs: Longs,
     rest: &mut Rest<'_>,
 ) -> Result<Option<Document>, NoMemory>
-    ensures { IfOk result (GivesPairs (worths table.now) kind rest.old.numbers.now
+    ensures { IfOk result (GivesPairs (worths table.now) longs kind rest.old.numbers.now
         (fields_of (node_parts wholes.entry)) (fields_of (node_parts texts.entry))
         rest.new.numbers.now) }
 {
@@ -83,7 +89,8 @@ fn code_pairs(
     let mut text_rest = texts;
     while let Some((name, whole, after)) = Tree::next(&whole_rest) {
         let (text, text_after) = beside(whole, text_rest);
-        let Some(value) = code_value(alloc, kind.value(name), whole, text, table, rest)? else {
+        let Some(value) = code_value(alloc, kind.value(name), whole, text, table, longs, rest)?
+        else {
             return Ok(None);
         };
         coded.push(String::from_str(alloc, name)?, value)?;
@@ -101,9 +108,10 @@ fn code_items(
     wholes: TreeParts<'_>,
     texts: TreeParts<'_>,
     table: &Table,
+    longs: Longs,
     rest: &mut Rest<'_>,
 ) -> Result<Option<Vec<Value>>, NoMemory>
-    ensures { IfOk result (GivesItems (worths table.now) role rest.old.numbers.now
+    ensures { IfOk result (GivesItems (worths table.now) longs role rest.old.numbers.now
         (items_of (values_of (node_parts wholes.entry)))
         (items_of (values_of (node_parts texts.entry)))
         rest.new.numbers.now) }
@@ -113,7 +121,7 @@ fn code_items(
     let mut text_rest = texts;
     while let Some((_, whole, after)) = Tree::next(&whole_rest) {
         let (text, text_after) = beside(whole, text_rest);
-        let Some(value) = code_value(alloc, role, whole, text, table, rest)? else {
+        let Some(value) = code_value(alloc, role, whole, text, table, longs, rest)? else {
             return Ok(None);
         };
         coded.push(value)?;
@@ -142,16 +150,17 @@ fn code_value(
     whole: Tree<'_>,
     text: Tree<'_>,
     table: &Table,
+    longs: Longs,
     rest: &mut Rest<'_>,
 ) -> Result<Option<Value>, NoMemory>
-    ensures { IfOk result (GivesValue (worths table.now) role rest.old.numbers.now
+    ensures { IfOk result (GivesValue (worths table.now) longs role rest.old.numbers.now
         (node_tree whole.entry) (node_tree text.entry) rest.new.numbers.now) }
 {
     match whole.kind() {
-        Kind::Doc => code_document(alloc, role, whole, alike(whole, text), table, rest),
-        Kind::Array => code_array(alloc, role, whole, alike(whole, text), table, rest),
-        Kind::CodeScope => code_scoped(alloc, role, whole, alike(whole, text), table, rest),
-        _ => code_scalar(alloc, role, whole, text, table, rest),
+        Kind::Doc => code_document(alloc, role, whole, alike(whole, text), table, longs, rest),
+        Kind::Array => code_array(alloc, role, whole, alike(whole, text), table, longs, rest),
+        Kind::CodeScope => code_scoped(alloc, role, whole, alike(whole, text), table, longs, rest),
+        _ => code_scalar(alloc, role, whole, text, table, longs, rest),
     }
 }
 
@@ -176,16 +185,17 @@ fn code_document(
     whole: Tree<'_>,
     text: Tree<'_>,
     table: &Table,
+    longs: Longs,
     rest: &mut Rest<'_>,
 ) -> Result<Option<Value>, NoMemory>
     requires whole { kind_of (node_tree whole) ≡ kinds.Doc }
     requires text { kind_of (node_tree text) ≡ kinds.Doc }
-    ensures { IfOk result (GivesValue (worths table.now) role rest.old.numbers.now
+    ensures { IfOk result (GivesValue (worths table.now) longs role rest.old.numbers.now
         (node_tree whole.entry) (node_tree text.entry) rest.new.numbers.now) }
 {
     let (wholes, texts) = (whole.parts(), text.parts());
     let kind = role.pairs(&wholes);
-    let Some(document) = code_pairs(alloc, kind, wholes, texts, table, rest)? else {
+    let Some(document) = code_pairs(alloc, kind, wholes, texts, table, longs, rest)? else {
         return Ok(None);
     };
     Ok(Some(Value::Doc(document)))
@@ -199,15 +209,16 @@ fn code_array(
     whole: Tree<'_>,
     text: Tree<'_>,
     table: &Table,
+    longs: Longs,
     rest: &mut Rest<'_>,
 ) -> Result<Option<Value>, NoMemory>
     requires whole { kind_of (node_tree whole) ≡ kinds.Array }
     requires text { kind_of (node_tree text) ≡ kinds.Array }
-    ensures { IfOk result (GivesValue (worths table.now) role rest.old.numbers.now
+    ensures { IfOk result (GivesValue (worths table.now) longs role rest.old.numbers.now
         (node_tree whole.entry) (node_tree text.entry) rest.new.numbers.now) }
 {
     let (wholes, texts) = (whole.parts(), text.parts());
-    let Some(items) = code_items(alloc, role.item(), wholes, texts, table, rest)? else {
+    let Some(items) = code_items(alloc, role.item(), wholes, texts, table, longs, rest)? else {
         return Ok(None);
     };
     Ok(Some(Value::Array(items)))
@@ -221,16 +232,17 @@ fn code_scoped(
     whole: Tree<'_>,
     text: Tree<'_>,
     table: &Table,
+    longs: Longs,
     rest: &mut Rest<'_>,
 ) -> Result<Option<Value>, NoMemory>
     requires whole { kind_of (node_tree whole) ≡ kinds.CodeScope }
     requires text { kind_of (node_tree text) ≡ kinds.CodeScope }
-    ensures { IfOk result (GivesValue (worths table.now) role rest.old.numbers.now
+    ensures { IfOk result (GivesValue (worths table.now) longs role rest.old.numbers.now
         (node_tree whole.entry) (node_tree text.entry) rest.new.numbers.now) }
 {
     let (code, wholes) = code_and_scope(whole);
     let (_, texts) = code_and_scope(text);
-    let Some(document) = code_pairs(alloc, role.scope(), wholes, texts, table, rest)? else {
+    let Some(document) = code_pairs(alloc, role.scope(), wholes, texts, table, longs, rest)? else {
         return Ok(None);
     };
     let code = String::from_str(alloc, code)?;
@@ -259,19 +271,33 @@ fn code_scalar(
     whole: Tree<'_>,
     text: Tree<'_>,
     table: &Table,
+    longs: Longs,
     rest: &mut Rest<'_>,
 ) -> Result<Option<Value>, NoMemory>
     requires { is_holder (kind_of (node_tree whole)) ≡ false }
-    ensures { IfOk result (GivesValue (worths table.now) role rest.old.numbers.now
+    ensures { IfOk result (GivesValue (worths table.now) longs role rest.old.numbers.now
         (node_tree whole.entry) (node_tree text.entry) rest.new.numbers.now) }
 {
     if is_number(whole, text) {
-        return Ok(code_number(role, rest.take(), table));
+        return code_number(alloc, role, rest.take(), table, longs);
     }
     match compared_number(role, whole) {
         Some(number) => Ok(Some(code_of(number, table))),
-        None => Ok(Some(to_value(alloc, whole)?)),
+        None => Ok(Some(kept_value(alloc, role, whole, longs)?)),
     }
+}
+
+/// A scalar that is not compared with: the class of a type of numbers in a `$type`; any other stays.
+fn kept_value(alloc: Global, role: Role, whole: Tree<'_>, longs: Longs) -> Result<Value, NoMemory>
+    requires { is_holder (kind_of (node_tree whole)) ≡ false }
+    ensures { IfOk result (λ v. tree_of v ≡ kept_at longs role (node_tree whole.entry)) }
+{
+    if role.is_types() {
+        if let Some(name) = class_in(longs, whole) {
+            return Ok(Value::Text(String::from_str(alloc, name)?));
+        }
+    }
+    to_value(alloc, whole)
 }
 
 /// Whether the two values are the int32 0 and the empty text.
@@ -302,11 +328,12 @@ fn is_empty_text(value: Tree<'_>) -> bool
 /// The number that an int32 or an int64 is, if it is compared with.
 fn compared_number(role: Role, whole: Tree<'_>) -> Option<Number>
     requires { is_holder (kind_of (node_tree whole)) ≡ false }
-    ensures some { IfSome result (λ n. (table : List ℤ) →
-        at_role (codes_of_tags table) role (node_tree whole.entry)
+    ensures some { IfSome result (λ n. (table : List ℤ) (longs : Longs) →
+        at_role longs (codes_of_tags table) role (node_tree whole.entry)
         ≡ leaf (trees.int64 (code table (worth_of n)))) }
-    ensures none { IfNone result ((table : List ℤ) →
-        at_role (codes_of_tags table) role (node_tree whole.entry) ≡ node_tree whole.entry) }
+    ensures none { IfNone result ((table : List ℤ) (longs : Longs) →
+        at_role longs (codes_of_tags table) role (node_tree whole.entry)
+        ≡ kept_at longs role (node_tree whole.entry)) }
 {
     if role.is_compared() {
         whole_number(whole)
@@ -333,20 +360,29 @@ fn whole_number(whole: Tree<'_>) -> Option<Number>
 }
 
 /// A number of a list: its code where it is compared with; None if it is not whole elsewhere.
-fn code_number(role: Role, number: Number, table: &Table) -> Option<Value>
-    ensures { MatchOption result
-        (Fits (at_role (codes_of_tags (worths table.now)) role
+fn code_number(
+    alloc: Global,
+    role: Role,
+    number: Number,
+    table: &Table,
+    longs: Longs,
+) -> Result<Option<Value>, NoMemory>
+    ensures { IfOk result (λ o. MatchOption o
+        (Fits (at_role longs (codes_of_tags (worths table.now)) role
         (leaf (trees.int64 (tag number)))) → ⊥)
-        (λ v. tree_of v ≡ at_role (codes_of_tags (worths table.now)) role
-        (leaf (trees.int64 (tag number)))) }
+        (λ v. tree_of v ≡ at_role longs (codes_of_tags (worths table.now)) role
+        (leaf (trees.int64 (tag number))))) }
 {
     if role.is_compared() {
         tags_stay(number);
-        return Some(code_of(number, table));
+        return Ok(Some(code_of(number, table)));
     }
     match number {
-        Number::Whole(z) => Some(Value::Int64(z)),
-        _ => None,
+        Number::Whole(z) => {
+            let whole = Value::Int64(z);
+            Ok(Some(kept_value(alloc, role, Tree::Value(&whole), longs)?))
+        }
+        _ => Ok(None),
     }
 }
 

@@ -7,8 +7,8 @@ ghost use Rattle.bd_query_filter.specs.FilterMatch.{accepts};
 ghost use Rattle.bd_query_filter.specs.declared.operand.Relation.{Relation};
 ghost use Rattle.bd_wide_number.specs.Value.{nan};
 ghost use Rattle.bd_wide_rank.specs.{Rank.is_among, Table.worths, Worth.value_worth};
-ghost use Rattle.bd_wide_order.specs.Renumber.{Codes, renumber_filter};
-ghost use Rattle.bd_wide_order.specs.Ranks.{TypesAlike, table_codes};
+ghost use Rattle.bd_wide_order.specs.Renumber.{renumber_filter};
+ghost use Rattle.bd_wide_order.specs.Ranks.{table_codes};
 ghost use Rattle.bd_wide_query.specs.Nan.{beside_nan, coded_beside_nan, operator_beside_nan, relates_beside_nan};
 
 use bd_wide_rank::Table;
@@ -18,15 +18,6 @@ pub fn renumbered_beside_nan(table: &Table)
     ensures { let ws = worths table.now in (f : Filter) →
         coded_beside_nan ws (renumber_filter (table_codes ws) f)
         ≡ renumber_filter (table_codes ws) (beside_nan ws f) }
-{}
-
-/// Where no `$type` of a filter distinguishes int32 from int64, none does beside NaN and with codes, and the other way round.
-#[tactic(auto, using(crate::proofs::AlikeLemmas::alike_back, crate::proofs::AlikeLemmas::alike_kept))]
-pub fn types_stay_alike()
-    ensures back { (c : Codes) (table : List ℤ) (f : Filter) →
-        TypesAlike (renumber_filter c (beside_nan table f)) → TypesAlike f }
-    ensures unchanged { (table : List ℤ) (f : Filter) →
-        TypesAlike f → TypesAlike (beside_nan table f) }
 {}
 
 /// A number of a table passes a comparison beside NaN exactly if it is so related to the other number: by their order, and if one of

@@ -18,30 +18,31 @@
 //! }
 //! let table = numbers.into_table().expect(&rt, "few numbers");
 //! let query = read_query(alloc, b"{\"a\":{\"$gt\":1.5,\"$size\":2}}")?;
-//! let coded = code_query(alloc, &query.wholes, &query.texts, &query.numbers, &table)?;
+//! let longs = Longs::none();
+//! let coded = code_query(alloc, &query.wholes, &query.texts, &query.numbers, &table, longs)?;
 //! let mut text = Vec::new(alloc);
 //! write_doc(&coded.expect(&rt, "a query"), &mut text)?;
 //! let wanted = b"{\"a\":{\"$gt\":{\"$numberLong\":\"2\"},\"$size\":{\"$numberInt\":\"2\"}}}";
 //! assert!(rt; text.as_slice() == wanted.as_slice());
 //! ```
 //!
-//! - `alike`: `types_alike`, whether a filter distinguishes int32 from int64.
 //! - `coded`: `code_query`, and the values of both documents in step.
 //! - `laws`: a filter beside NaN by value, and the same filter with codes.
 //! - `nan`: `exclude_nan`, the filter with codes beside NaN.
 //! - `read`: `read_query`, the two documents of a text and its numbers.
 //! - `role`: what a value of a query is: whether it is compared with.
+//! - `types`: `classes_of`, the two classes of the types of numbers that each `$type` of a query treats alike: `specs/Types.antt`.
 #![tactic(auto)]
 
-mod alike;
 mod coded;
 mod laws;
 mod nan;
 mod read;
 mod role;
+mod types;
 
-pub use alike::types_alike;
 pub use coded::code_query;
-pub use laws::{numbers_relate_beside_nan, renumbered_beside_nan, types_stay_alike};
+pub use laws::{numbers_relate_beside_nan, renumbered_beside_nan};
 pub use nan::exclude_nan;
 pub use read::{WideQuery, read_query};
+pub use types::{classes_of, takes_types_alike};

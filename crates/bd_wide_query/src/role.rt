@@ -5,7 +5,7 @@ ghost use Rattle.bd_value.specs.Tree.{fields_of};
 ghost use Rattle.bd_value.specs.View.{node_parts};
 ghost use Rattle.bd_query_filter.specs.FilterOf.{first_is_operator, has_value_form};
 ghost use Rattle.bd_query_filter.specs.NameKind.{begins_with_dollar, known_operator, name_kind_of};
-ghost use Rattle.bd_wide_query.specs.inside.Role.{is_compared, item_role, meaning_of, pairs_in, scope_pairs, value_role};
+ghost use Rattle.bd_wide_query.specs.inside.Role.{is_compared, is_types, item_role, meaning_of, pairs_in, scope_pairs, value_role};
 
 use bd_value::{Reading, Tree, TreeParts};
 
@@ -24,6 +24,8 @@ pub(crate) enum Role {
     Element,
     /// A value that is compared with, or a part of one.
     Compared,
+    /// The operand of `$type`, or a member of it.
+    Types,
     /// Any other value.
     Other,
 }
@@ -52,6 +54,8 @@ pub(crate) enum Meaning {
     Not,
     /// `$elemMatch`.
     ElemMatch,
+    /// `$type`.
+    Types,
     /// Another name that begins with a dollar sign, as `$size`.
     Other,
     /// A path.
@@ -74,7 +78,7 @@ const OPERATORS: [(&str, Meaning); 17] = [
     ("$all", Meaning::Compares),
     ("$size", Meaning::Other),
     ("$exists", Meaning::Other),
-    ("$type", Meaning::Other),
+    ("$type", Meaning::Types),
     ("$not", Meaning::Not),
     ("$elemMatch", Meaning::ElemMatch),
 ];
@@ -135,6 +139,13 @@ impl Role {
         matches!(self, Role::Value | Role::Compared)
     }
 
+    /// Whether types are here.
+    pub(crate) fn is_types(self) -> bool
+        ensures { result ≡ is_types self }
+    {
+        matches!(self, Role::Types)
+    }
+
     /// The role of the elements of an array that is here.
     pub(crate) fn item(self) -> Role
         ensures { result ≡ item_role self }
@@ -142,6 +153,7 @@ impl Role {
         match self {
             Role::Filters => Role::Filter,
             Role::Value | Role::Compared => Role::Compared,
+            Role::Types => Role::Types,
             _ => Role::Other,
         }
     }
@@ -157,7 +169,7 @@ impl Role {
             Role::Inverse => Pairs::Operators,
             Role::Element if has_value_form(parts) => Pairs::Operators,
             Role::Element => Pairs::Filter,
-            Role::Filters | Role::Other => Pairs::Other,
+            Role::Filters | Role::Types | Role::Other => Pairs::Other,
         }
     }
 
@@ -184,6 +196,7 @@ impl Pairs {
             (Pairs::Operators, Meaning::Compares) => Role::Compared,
             (Pairs::Operators, Meaning::Not) => Role::Inverse,
             (Pairs::Operators, Meaning::ElemMatch) => Role::Element,
+            (Pairs::Operators, Meaning::Types) => Role::Types,
             (Pairs::Compared, _) => Role::Compared,
             _ => Role::Other,
         }

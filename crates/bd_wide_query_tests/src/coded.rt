@@ -3,7 +3,7 @@
 use bd_extjson::read_doc;
 use bd_extjson_text::write_doc;
 use bd_wide_number::Number;
-use bd_wide_query::code_query;
+use bd_wide_query::{classes_of, code_query};
 use bd_wide_rank::Numbers;
 use std::alloc::Global;
 use std::process::Abort;
@@ -16,7 +16,7 @@ const DOUBLE: Number = Number::Double(0x3ff8_0000_0000_0000);
 const DECIMAL: Number = Number::Decimal128(25, 0x303e_0000_0000_0000);
 
 /// The two documents, with a double and a decimal128 in turn, are this query with codes, among the numbers 1, 1.5 and 2; or a number
-/// is where nothing is compared with it.
+/// is where nothing is compared with it, or two classes of types are not enough.
 fn is(
     rt: &impl Abort,
     alloc: Global,
@@ -31,7 +31,11 @@ fn is(
     let table = numbers.into_table().expect(rt, "few numbers");
     let wholes = read_doc(alloc, whole)?;
     let texts = read_doc(alloc, text)?;
-    let coded = code_query(alloc, &wholes, &texts, &[DOUBLE, DECIMAL], &table)?;
+    let Some(longs) = classes_of(&texts) else {
+        assert!(rt; wanted.is_none());
+        return Ok(());
+    };
+    let coded = code_query(alloc, &wholes, &texts, &[DOUBLE, DECIMAL], &table, longs)?;
     match (coded, wanted) {
         (Some(document), Some(bytes)) => {
             let mut out = Vec::new(alloc);
@@ -94,6 +98,29 @@ fn numbers_that_are_not_compared_with(rt: HostRuntime) -> Result<(), Fail> {
         None,
     )?;
     is(&rt, alloc, b"{\"$and\":0}", b"{\"$and\":\"\"}", None)
+}
+
+#[test]
+fn two_classes(rt: HostRuntime) -> Result<(), Fail> {
+    let alloc = rt.alloc();
+    // Doubles alone are told from the others.
+    let query =
+        b"{\"a\":{\"$type\":\"double\",\"$not\":{\"$type\":[16,\"string\",{\"$numberLong\":\"18\"},\"decimal\"]}},\"b\":{\"$type\":\"number\"},\"c\":{\"d\":{\"$type\":\"number\"}}}";
+    let wanted =
+        b"{\"a\":{\"$type\":\"long\",\"$not\":{\"$type\":[\"int\",\"string\",\"int\",\"int\"]}},\"b\":{\"$type\":\"number\"},\"c\":{\"d\":{\"$type\":\"number\"}}}";
+    is(&rt, alloc, query, query, Some(wanted))?;
+    // All are named: they stay.
+    let all = b"{\"a\":{\"$type\":[\"double\",\"int\",\"long\",\"decimal\"]}}";
+    is(&rt, alloc, all, all, Some(all))
+}
+
+#[test]
+fn more_than_two_classes(rt: HostRuntime) -> Result<(), Fail> {
+    let alloc = rt.alloc();
+    let three = b"{\"$or\":[{\"a\":{\"$type\":\"double\"}},{\"a\":{\"$type\":19}}]}";
+    is(&rt, alloc, three, three, None)?;
+    let other = b"{\"a\":{\"$type\":\"int\"},\"b\":{\"$type\":[\"long\",\"decimal\"]}}";
+    is(&rt, alloc, other, other, None)
 }
 
 #[test]

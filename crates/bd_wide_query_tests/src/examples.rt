@@ -1,5 +1,6 @@
 //! The example of use in the root of `bd_wide_query`.
 use bd_extjson_text::write_doc;
+use bd_wide_copy::Longs;
 use bd_wide_number::Number;
 use bd_wide_query::{code_query, read_query};
 use bd_wide_rank::Numbers;
@@ -14,7 +15,15 @@ fn between_two(rt: HostRuntime) -> Result<(), Fail> {
     }
     let table = numbers.into_table().expect(&rt, "few numbers");
     let query = read_query(alloc, b"{\"a\":{\"$gt\":1.5,\"$size\":2}}")?;
-    let coded = code_query(alloc, &query.wholes, &query.texts, &query.numbers, &table)?;
+    let longs = Longs::none();
+    let coded = code_query(
+        alloc,
+        &query.wholes,
+        &query.texts,
+        &query.numbers,
+        &table,
+        longs,
+    )?;
     let mut text = Vec::new(alloc);
     write_doc(&coded.expect(&rt, "a query"), &mut text)?;
     let wanted = b"{\"a\":{\"$gt\":{\"$numberLong\":\"2\"},\"$size\":{\"$numberInt\":\"2\"}}}";

@@ -8,6 +8,8 @@ use Rattle.bd_query_filter.specs.declared.filter_of.PlainOperator.TheVariants as
 use Rattle.bd_query_filter.specs.declared.filter_of.NameKind.TheVariants as name_kinds
 use Rattle.bd_wide_order.specs.Renumber.{Codes, renumber}
 use Rattle.bd_wide_order.specs.Query.{query_members, query_member, query_value, query_inverse, query_element}
+use Rattle.bd_wide_copy.specs.declared.longs.Longs.{Longs}
+use Rattle.bd_wide_query.specs.Types.{type_by_class, types_by_class}
 use Rattle.bd_wide_query.specs.declared.role.{Role.Role, Pairs.Pairs, Meaning.Meaning}
 use Rattle.bd_wide_query.specs.declared.role.Role.TheVariants as roles
 use Rattle.bd_wide_query.specs.declared.role.Pairs.TheVariants as pair_kinds
@@ -15,11 +17,11 @@ use Rattle.bd_wide_query.specs.declared.role.Meaning.TheVariants as meanings
 
 -- ---- names
 
--- what an operator with values means: `$size`, `$exists` and `$type` do not compare with their operand
+-- what an operator with values means: `$size` and `$exists` do not compare with their operand, and that of `$type` is types
 abbrev pub plain_meaning : PlainOperator → Meaning
 plain_meaning plain.Size = meanings.Other
 plain_meaning plain.Exists = meanings.Other
-plain_meaning plain.Type = meanings.Other
+plain_meaning plain.Type = meanings.Types
 plain_meaning p = meanings.Compares
 
 -- what a name means
@@ -40,11 +42,17 @@ is_compared roles.Value = true
 is_compared roles.Compared = true
 is_compared p = false
 
+-- whether types are here
+abbrev pub is_types : Role → Bool
+is_types roles.Types = true
+is_types p = false
+
 -- the role of the elements of an array
 abbrev pub item_role : Role → Role
 item_role roles.Filters = roles.Filter
 item_role roles.Value = roles.Compared
 item_role roles.Compared = roles.Compared
+item_role roles.Types = roles.Types
 item_role p = roles.Other
 
 -- what the pairs of a document are
@@ -65,6 +73,7 @@ abbrev pub operand_role : Meaning → Role
 operand_role meanings.Compares = roles.Compared
 operand_role meanings.Not = roles.Inverse
 operand_role meanings.ElemMatch = roles.Element
+operand_role meanings.Types = roles.Types
 operand_role m = roles.Other
 
 -- the role of the value of a pair of a filter
@@ -82,21 +91,26 @@ value_role pair_kinds.Other w = roles.Other
 -- ---- what becomes of a value
 
 -- the value at a role, with other numbers
-abbrev pub at_role : Codes → Role → Tree → Tree
-at_role c roles.Filters t = query_members c t
-at_role c roles.Filter t = query_member c t
-at_role c roles.Value t = query_value c t
-at_role c roles.Inverse t = query_inverse c t
-at_role c roles.Element t = query_element c t
-at_role c roles.Compared t = renumber c t
-at_role c roles.Other t = t
+abbrev pub at_role : Longs → Codes → Role → Tree → Tree
+at_role longs c roles.Filters t = query_members (types_by_class longs) c t
+at_role longs c roles.Filter t = query_member (types_by_class longs) c t
+at_role longs c roles.Value t = query_value (types_by_class longs) c t
+at_role longs c roles.Inverse t = query_inverse (types_by_class longs) c t
+at_role longs c roles.Element t = query_element (types_by_class longs) c t
+at_role longs c roles.Compared t = renumber c t
+at_role longs c roles.Types t = types_by_class longs t
+at_role longs c roles.Other t = t
+
+-- a scalar at a role where no number is compared with
+abbrev pub kept_at : Longs → Role → Tree → Tree
+kept_at longs p t = if is_types p then type_by_class longs t else t
 
 -- the pairs of a document, with other numbers
-abbrev pub pairs_at : Codes → Pairs → Fields → Fields
-pairs_at c p no_fields = no_fields
-pairs_at c p (field n t fs) = field n (at_role c (value_role p (name_kind_of n)) t) (pairs_at c p fs)
+abbrev pub pairs_at : Longs → Codes → Pairs → Fields → Fields
+pairs_at longs c p no_fields = no_fields
+pairs_at longs c p (field n t fs) = field n (at_role longs c (value_role p (name_kind_of n)) t) (pairs_at longs c p fs)
 
 -- the elements of an array, each at this role, with other numbers
-abbrev pub items_at : Codes → Role → Items → Items
-items_at c p no_items = no_items
-items_at c p (item t ts) = item (at_role c p t) (items_at c p ts)
+abbrev pub items_at : Longs → Codes → Role → Items → Items
+items_at longs c p no_items = no_items
+items_at longs c p (item t ts) = item (at_role longs c p t) (items_at longs c p ts)

@@ -28,8 +28,8 @@ decreases-code_items l = 4 * fields_size (fields_of (node_parts l.wholes)) + 2
 -- the pairs so far and those that remain are together all
 abbrev pub invariant-code_pairs-loop-name : goal.invariant-code_pairs-loop-name
 invariant-code_pairs-loop-name l = record {
-  so_far : pairs l.coded ++ pairs_of (pairs_at (codes_of_tags (worths l.table)) l.kind (tagged_fields l.rest.numbers.now (fields_of (node_parts l.whole_rest)) (fields_of (node_parts l.text_rest))))
-      ≡ pairs_of (pairs_at (codes_of_tags (worths l.table)) l.kind (tagged_fields l.fn.rest.numbers.now (fields_of (node_parts l.fn.wholes)) (fields_of (node_parts l.fn.texts))));
+  so_far : pairs l.coded ++ pairs_of (pairs_at l.longs (codes_of_tags (worths l.table)) l.kind (tagged_fields l.rest.numbers.now (fields_of (node_parts l.whole_rest)) (fields_of (node_parts l.text_rest))))
+      ≡ pairs_of (pairs_at l.longs (codes_of_tags (worths l.table)) l.kind (tagged_fields l.fn.rest.numbers.now (fields_of (node_parts l.fn.wholes)) (fields_of (node_parts l.fn.texts))));
   taken : drop (fields_count (fields_of (node_parts l.whole_rest)) (fields_of (node_parts l.text_rest))) l.rest.numbers.now
       ≡ drop (fields_count (fields_of (node_parts l.fn.wholes)) (fields_of (node_parts l.fn.texts))) l.fn.rest.numbers.now;
   fewer : fields_size (fields_of (node_parts l.whole_rest)) ≤ fields_size (fields_of (node_parts l.fn.wholes));
@@ -41,8 +41,8 @@ decreases-code_pairs-loop-name l = length (node_parts l.whole_rest)
 -- the elements so far and those that remain are together all
 abbrev pub invariant-code_items-loop-whole : goal.invariant-code_items-loop-whole
 invariant-code_items-loop-whole l = record {
-  so_far : map tree_of l.coded.items ++ list_of (items_at (codes_of_tags (worths l.table)) l.role (tagged_items l.rest.numbers.now (items_of (values_of (node_parts l.whole_rest))) (items_of (values_of (node_parts l.text_rest)))))
-      ≡ list_of (items_at (codes_of_tags (worths l.table)) l.role (tagged_items l.fn.rest.numbers.now (items_of (values_of (node_parts l.fn.wholes))) (items_of (values_of (node_parts l.fn.texts)))));
+  so_far : map tree_of l.coded.items ++ list_of (items_at l.longs (codes_of_tags (worths l.table)) l.role (tagged_items l.rest.numbers.now (items_of (values_of (node_parts l.whole_rest))) (items_of (values_of (node_parts l.text_rest)))))
+      ≡ list_of (items_at l.longs (codes_of_tags (worths l.table)) l.role (tagged_items l.fn.rest.numbers.now (items_of (values_of (node_parts l.fn.wholes))) (items_of (values_of (node_parts l.fn.texts)))));
   taken : drop (items_count (items_of (values_of (node_parts l.whole_rest))) (items_of (values_of (node_parts l.text_rest)))) l.rest.numbers.now
       ≡ drop (items_count (items_of (values_of (node_parts l.fn.wholes))) (items_of (values_of (node_parts l.fn.texts)))) l.fn.rest.numbers.now;
   fewer : fields_size (fields_of (node_parts l.whole_rest)) ≤ fields_size (fields_of (node_parts l.fn.wholes));

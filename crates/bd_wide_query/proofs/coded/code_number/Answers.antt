@@ -10,4 +10,4 @@ pub returns-then-is_compared : goal.returns-then-is_compared
 returns-then-is_compared c =
     c.code_of.ensures
     ∙ ap (λ (x : Number). leaf (int64 (code (worths c.args.table.now) (worth_of x)))) (sym c.tags_stay.ensures)
-    ∙ sym (compared_at (worths c.args.table.now) c.args.role (leaf (int64 (tag c.args.number))) refl (sym c.is_compared.ensures ∙ c.if-is_compared.true))
+    ∙ sym (compared_at (worths c.args.table.now) c.args.longs c.args.role (leaf (int64 (tag c.args.number))) refl (sym c.is_compared.ensures ∙ c.if-is_compared.true))

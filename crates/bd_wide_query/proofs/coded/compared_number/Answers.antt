@@ -12,4 +12,4 @@ returns-then-is_compared-clause-none c =
     none_at c.args.role (node_tree c.args.whole) c.requires (sym c.is_compared.ensures ∙ c.if-is_compared.true) c.whole_number.result c.whole_number.ensures.none
 
 pub returns-else-is_compared-clause-none : goal.returns-else-is_compared-clause-none
-returns-else-is_compared-clause-none c = λ table. other_at table c.args.role _ c.requires (sym c.is_compared.ensures ∙ c.if-is_compared.false)
+returns-else-is_compared-clause-none c = λ table longs. other_at table longs c.args.role _ c.requires (sym c.is_compared.ensures ∙ c.if-is_compared.false)
