@@ -1,7 +1,7 @@
 -- Tables, requests with codes, and copies.
 use Rattle.std.proofs.Common.{◌≡◌, ◌≤◌, ◌<◌, ◌^◌, arith, ℕ, List, length, Ok, Err, Result, refl, sym, ap, subst, inl, inr, ◌⊎◌, ◌∙◌, ◌++◌, [], codes, None, string_bytes}
 use Rattle.std.specs.Prelude.{ℤ, Option, true, false}
-use Rattle.bd_value.specs.Tree.{Doc, fields_of}
+use Rattle.bd_value.specs.Tree.{Doc, fields_of, int64}
 use Rattle.bd_bson_check.specs.Dump.{IsDump}
 use Rattle.bd_bson_check.proofs.DumpLemmas.{scan_once}
 use Rattle.bd_bson_dump.specs.Collection.{bytes_of as bytes_of_dump, documents}
@@ -14,17 +14,16 @@ use Rattle.bd_cli_find.specs.Options.{ReportsSearchFault}
 use Rattle.bd_cli_find.specs.declared.options.SearchFault.{SearchFault}
 use Rattle.bd_cli_find.specs.declared.options.SearchFault.TheVariants as faults
 use Rattle.bd_wide_number.specs.declared.number.Number.{Number}
-use Rattle.bd_wide_rank.specs.{Rank.AreDistinct, Rank.HaveSame, Rank.code, Worth.worth}
-use Rattle.bd_wide_copy.specs.{Copy.int32_of, Dump.AreDocuments, Dump.AreJoinedBy, Dump.AreNumbersOfAll, Dump.IsCopyOfDump, Dump.coded_documents, Numbers.document_numbers}
-use Rattle.bd_wide_order.specs.{Query.renumber_request, Ranks.TypesAlike, Ranks.table_codes}
+use Rattle.bd_wide_rank.specs.{Rank.AreDistinct, Rank.HaveSame, Rank.code, Rank.is_among, Worth.worth}
+use Rattle.bd_wide_copy.specs.{Classes.classed, Copy.number_as, Copy.number_coded, Dump.AreDocuments, Dump.AreJoinedBy, Dump.AreNumbersOfAll, Dump.IsCopyOfDump, Dump.coded_documents, Numbers.document_numbers}
+use Rattle.bd_wide_order.specs.{Query.renumber_request, Ranks.table_codes}
+use Rattle.bd_wide_copy.specs.declared.longs.Longs.{Longs}
 use Rattle.bd_wide_query.specs.Coded.{coded_query, valued_query}
-use Rattle.bd_wide_find.specs.Types.{fields_are_alike}
-use Rattle.bd_wide_find.specs.Find.{IsNoRequest, IsRequest, request_by_value, types_message}
-use Rattle.bd_wide_find.specs.Coded.{CopiesDump}
+use Rattle.bd_wide_find.specs.Find.{IsNoRequest, IsRequest, request_by_value}
+use Rattle.bd_wide_find.specs.Coded.{CopiesDump, IsTableOf}
+use Rattle.bd_wide_copy.proofs.ClassLemmas.{are_classed, document_numbers_widened, joined_widened}
 use Rattle.bd_wide_find.specs.inside.Fault.{ReportsAs}
 use Rattle.bd_wide_query.specs.Nan.{beside_nan}
-use Rattle.bd_wide_query.proofs.AlikeLemmas.{alike_back, alike_kept}
-use Rattle.bd_wide_find.proofs.TypesLemmas.{alike_renumbered}
 use Rattle.bd_wide_find.proofs.AnswerLemmas.{refusals_stay, requests_are_read}
 
 -- ---- tables
@@ -38,40 +37,49 @@ never_crowded bytes numbers documents are few (all, distinct, same, many) =
     let less = few ds all joined distinct (λ w. same w ∙ are ds joined w) in
     omega (arith, less, many)
 
+-- the table of all numbers of a dump, whatever their classes
+pub table_has : (bytes : List ℕ) (numbers table : List ℤ) → AreNumbersOfAll bytes numbers → AreDistinct table → HaveSame table numbers → IsTableOf bytes table
+table_has bytes numbers table are distinct same longs ds joined = record {
+  are = joined;
+  distinct = distinct;
+  same = λ w. same w ∙ are (coded_documents (number_as int64) ds) (joined_widened longs worth ds bytes joined) w
+      ∙ ap (λ (ns : List ℤ). is_among ns w) (document_numbers_widened ds);
+}
+
 -- ---- copies
 
 -- a dump that is the copy has the documents with codes
-pub copied_documents : (bytes new : List ℕ) (table : List ℤ) (es ds : List Doc) → IsDump es new → IsCopyOfDump worth (code table) bytes new
-    → AreJoinedBy (valued worth) ds bytes → es ≡ coded_documents (int32_of (code table)) ds
-copied_documents bytes new table es ds dump copied are = (scan_once es (coded_documents (int32_of (code table)) ds) None None new dump.0 (copied ds are).0.0).0
+pub copied_documents : (longs : Longs) (bytes new : List ℕ) (table : List ℤ) (es ds : List Doc) → IsDump es new → IsCopyOfDump longs worth (code table) bytes new
+    → AreJoinedBy (classed longs worth) ds bytes → es ≡ coded_documents (number_coded (code table)) ds
+copied_documents longs bytes new table es ds dump copied are = (scan_once es (coded_documents (number_coded (code table)) ds) None None new dump.0 (copied ds are).0.0).0
 
 -- a copy is a dump
-pub copy_is_dump : (bytes : List ℕ) (table : List ℤ) (start new x : List ℕ) → AreDocuments bytes → IsCopyOfDump worth (code table) bytes x → new ≡ start ++ x
-    → start ≡ [] → (ds : List Doc) × IsDump ds new
-copy_is_dump bytes table start new x documents copied added empty =
-    let (ds, are) = documents worth in
+pub copy_is_dump : (longs : Longs) (bytes : List ℕ) (table : List ℤ) (start new x : List ℕ) → AreDocuments bytes → IsCopyOfDump longs worth (code table) bytes x
+    → new ≡ start ++ x → start ≡ [] → (ds : List Doc) × IsDump ds new
+copy_is_dump longs bytes table start new x documents copied added empty =
+    let (ds, are) = are_classed longs worth bytes documents in
     let is : x ≡ new = ap (λ (s : List ℕ). s ++ x) (sym empty) ∙ sym added in
-    (coded_documents (int32_of (code table)) ds, subst (λ (y : List ℕ). IsDump (coded_documents (int32_of (code table)) ds) y) is (copied ds are).0)
+    (coded_documents (number_coded (code table)) ds, subst (λ (y : List ℕ). IsDump (coded_documents (number_coded (code table)) ds) y) is (copied ds are).0)
 
 -- the copy that was written and read
-pub copies_dump : (bytes : List ℕ) (table : List ℤ) (copy : Dump) (start new x : List ℕ) → IsCopyOfDump worth (code table) bytes x → new ≡ start ++ x
-    → start ≡ [] → IsDump (documents copy) new → bytes_of_dump copy ≡ new → CopiesDump bytes table copy
-copies_dump bytes table copy start new x copied added empty dump same =
+pub copies_dump : (longs : Longs) (bytes : List ℕ) (table : List ℤ) (copy : Dump) (start new x : List ℕ) → IsCopyOfDump longs worth (code table) bytes x → new ≡ start ++ x
+    → start ≡ [] → IsDump (documents copy) new → bytes_of_dump copy ≡ new → CopiesDump longs bytes table copy
+copies_dump longs bytes table copy start new x copied added empty dump same =
     let is : x ≡ new = ap (λ (s : List ℕ). s ++ x) (sym empty) ∙ sym added in
-    let written = subst (λ (y : List ℕ). IsCopyOfDump worth (code table) bytes y) is copied in
+    let written = subst (λ (y : List ℕ). IsCopyOfDump longs worth (code table) bytes y) is copied in
     record {
-      copied = subst (λ (y : List ℕ). IsCopyOfDump worth (code table) bytes y) (sym same) written;
-      documents_are = λ ds are. copied_documents bytes new table (documents copy) ds dump written are;
+      copied = subst (λ (y : List ℕ). IsCopyOfDump longs worth (code table) bytes y) (sym same) written;
+      documents_are = λ ds are. copied_documents longs bytes new table (documents copy) ds dump written are;
     }
 
 -- ---- requests
 
-module _ (options : FindOptions) (table : List ℤ) (numbers : List Number) (wholes texts : Doc) where
+module _ (options : FindOptions) (table : List ℤ) (longs : Longs) (numbers : List Number) (wholes texts : Doc) where
   abbrev by_value : Doc
-  by_value = valued_query numbers wholes texts
+  by_value = valued_query longs numbers wholes texts
 
   abbrev with_codes : Doc
-  with_codes = coded_query table numbers wholes texts
+  with_codes = coded_query table longs numbers wholes texts
 
   -- what the options ask of values, and of codes
   abbrev pub RequestsBoth : Type 0
@@ -119,28 +127,28 @@ module _ (options : FindOptions) (table : List ℤ) (numbers : List Number) (who
           of_request (Err why) e = inr (
             refused_text why,
             v_is ∙ ap after_request e,
-            c_is ∙ ap after_request (refusals_stay table numbers wholes texts sort options.skip options.limit why e),
+            c_is ∙ ap after_request (refusals_stay table longs numbers wholes texts sort options.skip options.limit why e),
           )
           of_request (Ok r) e =
               let text = request_text with_codes sort options.skip options.limit in
               both_after text r (error_as refused_text (batch_part options.batch)) (error_as index_fault_text (named_index options.index))
               (error_as refused_text (after_part options.after)) (requested_with options by_value) (requested_with options with_codes)
-              (v_is ∙ ap after_request e) (c_is ∙ ap after_request (requests_are_read table numbers wholes texts sort options.skip options.limit r e))
+              (v_is ∙ ap after_request e) (c_is ∙ ap after_request (requests_are_read table longs numbers wholes texts sort options.skip options.limit r e))
 
   -- why the options ask nothing of codes is why they ask nothing by value
   pub requests_nothing : (fault : SearchFault) → ReportsSearchFault (requested_with options with_codes) fault
-      → ReportsAs (IsNoRequest options numbers wholes texts table) fault
+      → ReportsAs (IsNoRequest options longs numbers wholes texts table) fault
   requests_nothing faults.NoMemory reported = tt
   requests_nothing (faults.Refused refused) reported = of_message (refused_text (reason_of refused)) reported requests_both
     where
-      of_message : (m : List ℕ) → requested_with options with_codes ≡ Err m → RequestsBoth → IsNoRequest options numbers wholes texts table m
+      of_message : (m : List ℕ) → requested_with options with_codes ≡ Err m → RequestsBoth → IsNoRequest options longs numbers wholes texts table m
       of_message m is (inl (r, token, text, v, c)) = absurd (let no : ⊥ = cc in no)
-      of_message m is (inr (n, v, c)) = inr (inl (v ∙ sym c ∙ is))
+      of_message m is (inr (n, v, c)) = inr (v ∙ sym c ∙ is)
   requests_nothing (faults.Message message) reported = of_message (string_bytes message) reported requests_both
     where
-      of_message : (m : List ℕ) → requested_with options with_codes ≡ Err m → RequestsBoth → IsNoRequest options numbers wholes texts table m
+      of_message : (m : List ℕ) → requested_with options with_codes ≡ Err m → RequestsBoth → IsNoRequest options longs numbers wholes texts table m
       of_message m is (inl (r, token, text, v, c)) = absurd (let no : ⊥ = cc in no)
-      of_message m is (inr (n, v, c)) = inr (inl (v ∙ sym c ∙ is))
+      of_message m is (inr (n, v, c)) = inr (v ∙ sym c ∙ is)
 
   -- a request to codes is that by value with codes
   pub requested_by_value : (coded : Request) (token : Option Token) → requested_with options with_codes ≡ Ok (coded, token)
@@ -161,27 +169,8 @@ module _ (options : FindOptions) (table : List ℤ) (numbers : List Number) (who
       (beside : (r : Request) (text : List ℕ) → coded ≡ renumber_request (table_codes table) text r
       → view ≡ renumber_request (table_codes table) text (record r { filter = beside_nan table r.filter })) where
     -- the search with codes requests what the options ask by value
-    pub search_requests : fields_are_alike (fields_of texts) ≡ true → TypesAlike view.filter → (requests : IsRequest options numbers wholes texts table) × (token ≡ requests.token)
+    pub search_requests : (requests : IsRequest options longs numbers wholes texts table) × (token ≡ requests.token)
         × (view ≡ renumber_request (table_codes table) requests.coded.text (request_by_value table requests.request requests.coded))
-    search_requests named alike =
+    search_requests =
         let (r, by, is) = requested_by_value coded token requested in
-        let beside_is = beside r coded.text is in
-        let types = alike_back (table_codes table) table r.filter (subst TypesAlike (ap (λ (x : Request). x.filter) beside_is) alike) in
-        (record { request = r; token = token; requested = by; named_alike = named; alike = types; coded = coded; written = requested }, refl, beside_is)
-
-    -- some of the types of numbers are requested
-    pub requests_types : (message : List ℕ) → (fields_are_alike (fields_of texts) ≡ false) ⊎ (TypesAlike view.filter → ⊥) → message ≡ types_message → IsNoRequest options numbers wholes texts table message
-    requests_types message (inl named) is =
-        let (r, by, is_coded) = requested_by_value coded token requested in
-        inr (inr (r, token, by, inl named, is))
-    requests_types message (inr unlike) is =
-        let (r, by, is_coded) = requested_by_value coded token requested in
-        let beside_is = beside r coded.text is_coded in
-        inr (inr (
-          r,
-          token,
-          by,
-          inr (λ alike. unlike (subst TypesAlike (sym (ap (λ (x : Request). x.filter) beside_is))
-              (alike_renumbered (table_codes table) (beside_nan table r.filter) (alike_kept table r.filter alike)))),
-          is,
-        ))
+        (record { request = r; token = token; requested = by; coded = coded; written = requested }, refl, beside r coded.text is)

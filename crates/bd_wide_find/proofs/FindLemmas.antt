@@ -23,8 +23,8 @@ use Rattle.bd_cli_find.specs.declared.options.SearchFault.TheVariants as faults
 use Rattle.bd_cli_print.specs.Printer.{IsNamedText}
 use Rattle.bd_cli_find.proofs.{BatchLemmas.five_each, FindLemmas.refusal_is_output, OptionsLemmas.explain_refusal}
 use Rattle.bd_wide_rank.specs.Rank.{code}
-use Rattle.bd_wide_copy.specs.{Copy.int32_of, Dump.IsDocumentAt, Dump.coded_documents}
-use Rattle.bd_wide_order.specs.{Query.renumber_request, Ranks.TypesAlike, Ranks.table_codes, Renumber.DocumentsAreOf}
+use Rattle.bd_wide_copy.specs.{Copy.number_coded, Dump.IsDocumentAt, Dump.coded_documents}
+use Rattle.bd_wide_order.specs.{Query.renumber_request, Ranks.table_codes, Renumber.DocumentsAreOf}
 use Rattle.bd_wide_find.specs.Find.{FindCase, IsAccepted, case_run, printing_in, wide_find_run}
 use Rattle.bd_wide_find.specs.Find as cases
 use Rattle.bd_wide_find.specs.Load.{FailsToLoadWide}
@@ -79,12 +79,12 @@ module _ {program : List ℕ} (form : Form) (text : List ℕ) (options : FindOpt
 -- ---- codes
 
 -- a search with codes over the copy has the run of the search by value over the documents
-pub coded_runs : (table : List ℤ) (r : Request) → TypesAlike r.filter → (ds : List Doc) → DocumentsAreOf (table_codes table) ds
+pub coded_runs : (table : List ℤ) (r : Request) (ds : List Doc) → DocumentsAreOf (table_codes table) ds
     → (copy text : List ℕ) (printing : Printing) (size : Option ℕ) (token : Option Token)
-    → found_run printing size (renumber_request (table_codes table) text r, token) copy (coded_documents (int32_of (code table)) ds)
+    → found_run printing size (renumber_request (table_codes table) text r, token) copy (coded_documents (number_coded (code table)) ds)
     ≡ found_run printing size (record r { text = text }, token) copy ds
-coded_runs table r alike ds are copy text printing size token =
-    ap (λ (q : Query). places_run printing size q token (places_from q token)) (coded_answers table r alike ds are copy text)
+coded_runs table r ds are copy text printing size token =
+    ap (λ (q : Query). places_run printing size q token (places_from q token)) (coded_answers table r ds are copy text)
 
 -- ---- the dump itself
 

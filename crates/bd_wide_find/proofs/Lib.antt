@@ -4,6 +4,5 @@ pub mod CodedLemmas
 pub mod FindLemmas
 pub mod NumberLemmas
 pub mod QuestionLemmas
-pub mod TypesLemmas
-pub mod WidthLemmas
+pub mod RenumberLemmas
 pub mod PrinterLemmas

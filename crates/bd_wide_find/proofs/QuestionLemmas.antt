@@ -1,6 +1,6 @@
 -- What the options ask, or why they are refused.
-use Rattle.std.proofs.Common.{◌≡◌, ◌∙◌, List, ℕ, inr, string_bytes}
-use Rattle.std.specs.Prelude.{ℤ}
+use Rattle.std.proofs.Common.{◌≡◌, ◌∙◌, List, ℕ, inl, inr, subst, string_bytes}
+use Rattle.std.specs.Prelude.{ℤ, true, false}
 use Rattle.bd_value.specs.Tree.{AreParts, Doc, doc, fields_of, pairs_of-fields_of}
 use Rattle.bd_cursor_request.specs.Refused.{reason_of}
 use Rattle.bd_cli_args.specs.FindOptions.{FindOptions}
@@ -9,9 +9,13 @@ use Rattle.bd_cli_find.specs.declared.options.{SearchFault.SearchFault}
 use Rattle.bd_cli_find.specs.declared.options.SearchFault.TheVariants as faults
 use Rattle.bd_wide_number.specs.declared.number.Number.{Number}
 use Rattle.bd_wide_rank.specs.Worth.{worth}
-use Rattle.bd_wide_copy.specs.Dump.{AreDocuments}
+use Rattle.bd_wide_copy.specs.Dump.{AreDocuments, AreJoinedBy}
+use Rattle.bd_wide_copy.specs.Classes.{classed}
+use Rattle.bd_wide_copy.specs.declared.longs.Longs.{Longs}
+use Rattle.bd_wide_copy.proofs.ClassLemmas.{are_classed}
+use Rattle.bd_wide_query.specs.Types.{has_two_classes, longs_of}
 use Rattle.bd_wide_substitute.specs.Both.{IsRead}
-use Rattle.bd_wide_find.specs.Find.{IsNoRequest, IsRefused, IsRefusedOver}
+use Rattle.bd_wide_find.specs.Find.{IsNoRequest, IsRefused, IsRefusedOver, types_message}
 use Rattle.bd_wide_find.specs.declared.coded.Coded.{Coded}
 use Rattle.bd_wide_find.specs.Coded.{CopiesDump, IsTableOf}
 use Rattle.bd_wide_find.specs.inside.Fault.{ReportsAs}
@@ -35,16 +39,38 @@ reports_more Is More more faults.NoMemory reported = tt
 reports_more Is More more (faults.Refused refused) reported = more (refused_text (reason_of refused)) reported
 reports_more Is More more (faults.Message message) reported = more (string_bytes message) reported
 
-module _ (options : FindOptions) (numbers : List Number) (wholes texts : Doc) (bytes : List ℕ) (documents : AreDocuments bytes) where
-  -- the options are refused over a dump
-  pub refused_over : (table : List ℤ) → IsTableOf bytes table → (fault : SearchFault) → ReportsAs (IsNoRequest options numbers wholes texts table) fault
-      → ReportsAs (IsRefusedOver options numbers wholes texts bytes) fault
-  refused_over table of fault =
-      reports_more (IsNoRequest options numbers wholes texts table) (IsRefusedOver options numbers wholes texts bytes)
-      (λ message is. ((documents worth).0, table, of (documents worth).0 (documents worth).1, is)) fault
+module _ (options : FindOptions) (numbers : List Number) (wholes texts : Doc) (bytes : List ℕ) where
+  -- two classes are not enough
+  pub refused_types : has_two_classes (fields_of texts) ≡ false → (message : List ℕ) → message ≡ types_message → IsRefusedOver options numbers wholes texts bytes message
+  refused_types apart message is = inl (apart, is)
 
-  -- a search with codes, and the copy
-  pub searches_copy : (table : List ℤ) → IsTableOf bytes table → (c : Coded) → SearchesBy options numbers wholes texts table c.search
-      → CopiesDump bytes table c.copy → SearchesCopy options numbers wholes texts bytes c
-  searches_copy table of c searches copies =
-      record { ds = (documents worth).0; table = table; has = of (documents worth).0 (documents worth).1; searches = searches; copies = copies }
+  module _ (documents : AreDocuments bytes) (longs : Longs) (is : longs ≡ longs_of (fields_of texts)) (two : has_two_classes (fields_of texts) ≡ true) where
+    abbrev these : (ds : List Doc) × AreJoinedBy (classed (longs_of (fields_of texts)) worth) ds bytes
+    these = are_classed (longs_of (fields_of texts)) worth bytes documents
+
+    -- the options are refused over a dump
+    pub refused_over : (table : List ℤ) → IsTableOf bytes table → (fault : SearchFault) → ReportsAs (IsNoRequest options longs numbers wholes texts table) fault
+        → ReportsAs (IsRefusedOver options numbers wholes texts bytes) fault
+    refused_over table of fault =
+        reports_more (IsNoRequest options longs numbers wholes texts table) (IsRefusedOver options numbers wholes texts bytes)
+        (λ message no. inr (
+          two,
+          (
+            these.0,
+            table,
+            of (longs_of (fields_of texts)) these.0 these.1,
+            subst (λ (l : Longs). IsNoRequest options l numbers wholes texts table message) is no,
+          ),
+        )) fault
+
+    -- a search with codes, and the copy
+    pub searches_copy : (table : List ℤ) → IsTableOf bytes table → (c : Coded) → SearchesBy options longs numbers wholes texts table c.search
+        → CopiesDump longs bytes table c.copy → SearchesCopy options numbers wholes texts bytes c
+    searches_copy table of c searches copies = record {
+      two_classes = two;
+      ds = these.0;
+      table = table;
+      has = of (longs_of (fields_of texts)) these.0 these.1;
+      searches = subst (λ (l : Longs). SearchesBy options l numbers wholes texts table c.search) is searches;
+      copies = subst (λ (l : Longs). CopiesDump l bytes table c.copy) is copies;
+    }

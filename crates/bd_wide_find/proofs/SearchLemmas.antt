@@ -1,9 +1,8 @@
 -- The runs over a dump: by its own documents, by value, or with a refusal.
 use Rattle.std.proofs.Common.{◌≡◌, ◌≤◌, ◌<◌, arith, ℕ, List, [], ◌∷◌, length, Ok, refl, sym, ap, subst, inr, ◌∙◌}
 use Rattle.std.specs.Prelude.{Option, ℤ}
-use Rattle.bd_value.specs.{Limits.greatest_count, Tree.Doc, Tree.Scalar, View.pairs}
+use Rattle.bd_value.specs.{Limits.greatest_count, Tree.Doc, Tree.Scalar, Tree.int64, View.pairs}
 use Rattle.bd_io_device.specs.Devices.{Over, Reader, Writer, between}
-use Rattle.bd_bson_view.specs.Spelling.{valued}
 use Rattle.bd_bson_check.specs.Dump.{IsDump}
 use Rattle.bd_bson_dump.specs.Collection.{bytes_of as bytes_of_dump, documents}
 use Rattle.bd_bson_dump.specs.declared.collection.Dump.{Dump}
@@ -15,8 +14,10 @@ use Rattle.bd_cli_scan.specs.{Input.ReadsInput, Run.Prints, declared.output.Stat
 use Rattle.bd_cli_find.specs.Find.{Printing, found_run}
 use Rattle.bd_cli_find.specs.declared.options.SearchFault.{SearchFault}
 use Rattle.bd_wide_rank.specs.{Rank.code, Worth.worth}
-use Rattle.bd_wide_copy.specs.{Copy.int32_of, Dump.AreJoinedBy, Dump.IsCount, Dump.IsDocumentAt, Dump.coded_documents}
+use Rattle.bd_wide_copy.specs.{Classes.classed, Copy.number_as, Copy.number_coded, Dump.AreJoinedBy, Dump.IsCount, Dump.IsDocumentAt, Dump.coded_documents}
 use Rattle.bd_wide_copy.proofs.StartsLemmas.{starts_count}
+use Rattle.bd_wide_copy.proofs.ClassLemmas.{joined_widened}
+use Rattle.bd_wide_copy.specs.declared.longs.Longs.{Longs}
 use Rattle.bd_wide_order.specs.{Query.renumber_request, Ranks.table_codes}
 use Rattle.bd_wide_find.specs.{Find.IsAccepted, Find.IsRequestOver, Find.IsRefusedOver, Find.HasValues, Find.printing_in, Find.request_by_value, Find.wide_find_run, Printer.IsWideText}
 use Rattle.bd_wide_find.specs.Find as cases
@@ -25,29 +26,29 @@ use Rattle.bd_wide_find.specs.Coded.{CopiesDump}
 use Rattle.bd_wide_find.specs.inside.Fault.{IsReported, ReportsAs}
 use Rattle.bd_wide_find.specs.inside.Question.{ReadsOptions, SearchesCopy}
 use Rattle.bd_wide_find.proofs.{FindLemmas.coded_runs, FindLemmas.few_documents, FindLemmas.of_case, FindLemmas.reports_fault}
-use Rattle.bd_wide_query.proofs.AlikeLemmas.{alike_kept}
 use Rattle.bd_wide_find.proofs.NumberLemmas.{numbers_are_of}
 
 -- ---- how many documents
 
-pub coded_count : (c : ℤ → Scalar) (ds : List Doc) → length (coded_documents c ds) ≡ length ds
+pub coded_count : (c : Scalar → Scalar) (ds : List Doc) → length (coded_documents c ds) ≡ length ds
 coded_count c [] = refl
 coded_count c (d ∷ ds) = omega (arith, coded_count c ds)
 
-pub count_is : (ds : List Doc) (bytes : List ℕ) → AreJoinedBy (valued worth) ds bytes → IsCount bytes (length ds)
-count_is ds bytes are = λ w es joined.
+pub count_is : (longs : Longs) (ds : List Doc) (bytes : List ℕ) → AreJoinedBy (classed longs worth) ds bytes → IsCount bytes (length ds)
+count_is longs ds bytes are = λ w es joined.
     let le : length bytes ≤ length bytes = omega arith in
-    sym (starts_count worth ds bytes (length bytes) 0 are le) ∙ starts_count w es bytes (length bytes) 0 joined le
+    let wide = coded_documents (number_as int64) ds in
+    sym (coded_count (number_as int64) ds) ∙ sym (starts_count worth wide bytes (length bytes) 0 (joined_widened longs worth ds bytes are) le) ∙ starts_count w es bytes (length bytes) 0 joined le
 
-module _ (bytes : List ℕ) (table : List ℤ) (copy : Dump) (ds : List Doc) (are : AreJoinedBy (valued worth) ds bytes) (copies : CopiesDump bytes table copy) where
+module _ (longs : Longs) (bytes : List ℕ) (table : List ℤ) (copy : Dump) (ds : List Doc) (are : AreJoinedBy (classed longs worth) ds bytes) (copies : CopiesDump longs bytes table copy) where
   pub few_copied : length (documents copy) ≤ greatest_count
   few_copied = subst (λ (es : List Doc). length es ≤ greatest_count) (sym (copies.documents_are ds are))
-      (few_documents (coded_documents (int32_of (code table)) ds) (bytes_of_dump copy) (copies.copied ds are).0)
+      (few_documents (coded_documents (number_coded (code table)) ds) (bytes_of_dump copy) (copies.copied ds are).0)
 
   pub can_print_copied : (place : ℕ) → place < length (documents copy) → (count : ℕ) × IsCount bytes count × (place < count)
   can_print_copied place lt =
-      let same : length (documents copy) ≡ length ds = ap (λ (es : List Doc). length es) (copies.documents_are ds are) ∙ coded_count (int32_of (code table)) ds in
-      (length ds, count_is ds bytes are, omega (arith, lt, same))
+      let same : length (documents copy) ≡ length ds = ap (λ (es : List Doc). length es) (copies.documents_are ds are) ∙ coded_count (number_coded (code table)) ds in
+      (length ds, count_is longs ds bytes are, omega (arith, lt, same))
 
 -- ---- the runs
 
@@ -81,7 +82,7 @@ module _ (text : List ℕ) (options : FindOptions) (q : Question) (requests : Re
 
     module _ (c : Coded) (s : SearchesCopy options q.query.numbers.items (pairs q.query.wholes) (pairs q.query.texts) bytes c) where
       requested : IsRequestOver options q.query.numbers.items (pairs q.query.wholes) (pairs q.query.texts) bytes
-      requested = record { ds = s.ds; table = s.table; has = s.has; requests = s.searches.0; copy = bytes_of_dump c.copy; copied = s.copies.copied }
+      requested = record { two_classes = s.two_classes; ds = s.ds; table = s.table; has = s.has; requests = s.searches.0; copy = bytes_of_dump c.copy; copied = s.copies.copied }
 
       abbrev printing : Printing
       printing = printing_in form (IsWideText bytes) (IsDocumentAt bytes)
@@ -101,5 +102,5 @@ module _ (text : List ℕ) (options : FindOptions) (q : Question) (requests : Re
           (s.copies.documents_are s.ds s.has.are) resumed in
           of_case form text options file (cases.by_value accepted bytes read values requested)
           (subst (λ run. Prints program run out err status)
-          (coded_runs s.table r (alike_kept s.table request.request.filter request.alike) s.ds (numbers_are_of s.table s.ds s.has.same)
+          (coded_runs s.table r s.ds (numbers_are_of s.table s.ds s.has.same)
           (bytes_of_dump c.copy) request.coded.text printing options.batch request.token) copied)

@@ -3,7 +3,6 @@ use Rattle.std.specs.Prelude.{◌≡◌, ◌⊎◌, ℕ, ℤ, true, false, List,
 use Rattle.bd_value.specs.{Tree.Doc, Tree.doc, Tree.fields_of, Fits.Fits}
 use Rattle.bd_io_device.specs.Devices.{Over, Reader, read_words}
 use Rattle.bd_io_device.specs.declared.reading.ReadFault.{ReadFault}
-use Rattle.bd_bson_view.specs.Spelling.{valued}
 use Rattle.bd_bson_check.specs.{Dump.IsDump, Fault.fault_view}
 use Rattle.bd_bson_check.specs.declared.fault.Fault.{Fault}
 use Rattle.bd_extjson_fault.specs.declared.json_fault.JsonFault.{JsonFault}
@@ -16,11 +15,11 @@ use Rattle.bd_cli_scan.specs.{Input.ReadsInput, Run.Run, Run.partial_run, Output
 use Rattle.bd_cli_find.specs.{Find.Printing, Find.each_document, Find.found_run, Find.their_count, Options.json_fault_text, Options.requested_with}
 use Rattle.bd_wide_number.specs.declared.number.Number.{Number}
 use Rattle.bd_wide_rank.specs.{Rank.AreDistinct, Rank.HaveSame, Rank.code, Worth.worth}
-use Rattle.bd_wide_copy.specs.{Dump.AreJoinedBy, Dump.IsCopyOfDump, Dump.IsDocumentAt, Dump.IsFirstFault, Numbers.document_numbers}
-use Rattle.bd_wide_order.specs.Ranks.{TypesAlike}
+use Rattle.bd_wide_copy.specs.declared.longs.Longs.{Longs}
+use Rattle.bd_wide_copy.specs.{Classes.classed, Dump.AreJoinedBy, Dump.IsCopyOfDump, Dump.IsDocumentAt, Dump.IsFirstFault, Numbers.document_numbers}
 use Rattle.bd_wide_substitute.specs.Both.{IsRead, IsUnread}
-use Rattle.bd_wide_query.specs.{Coded.coded_query, Coded.valued_query, Nan.beside_nan}
-use Rattle.bd_wide_find.specs.{Printer.IsWideText, Types.fields_are_alike}
+use Rattle.bd_wide_query.specs.{Coded.coded_query, Coded.valued_query, Nan.beside_nan, Types.has_two_classes, Types.longs_of}
+use Rattle.bd_wide_find.specs.Printer.{IsWideText}
 
 -- ---- what is requested
 
@@ -46,55 +45,54 @@ pub record IsAccepted (text : List ℕ) (options : FindOptions) : Type 0 where
 
 -- ---- the answer by value
 
--- The bytes are these documents by value, and the table has the worth of each number in them once.
-pub record HasTable (bytes : List ℕ) (ds : List Doc) (table : List ℤ) : Type 0 where
-  pub are : AreJoinedBy (valued worth) ds bytes
+-- The bytes are these documents by value and class, and the table has the worth of each number in them once.
+pub record HasTable (longs : Longs) (bytes : List ℕ) (ds : List Doc) (table : List ℤ) : Type 0 where
+  pub are : AreJoinedBy (classed longs worth) ds bytes
   pub distinct : AreDistinct table
   pub same : HaveSame table (document_numbers ds)
 
--- The request of a query by value. The text is that of the request with ranks among the numbers of a table.
-pub record IsRequest (options : FindOptions) (numbers : List Number) (wholes texts : Doc) (table : List ℤ) : Type 0 where
+-- The request of a query by value and class. The text is that of the request with ranks among the numbers of a table.
+pub record IsRequest (options : FindOptions) (longs : Longs) (numbers : List Number) (wholes texts : Doc) (table : List ℤ) : Type 0 where
   pub request : Request
   pub token : Option Token
-  pub requested : requested_with options (valued_query numbers wholes texts) ≡ Ok (request, token)
-  pub named_alike : fields_are_alike (fields_of texts) ≡ true
-  pub alike : TypesAlike request.filter
+  pub requested : requested_with options (valued_query longs numbers wholes texts) ≡ Ok (request, token)
   pub coded : Request
-  pub written : requested_with options (coded_query table numbers wholes texts) ≡ Ok (coded, token)
+  pub written : requested_with options (coded_query table longs numbers wholes texts) ≡ Ok (coded, token)
 
--- the message for `$type` of some of the types of numbers
+-- the message for a query whose `$type`s tell more than two classes of numbers apart
 abbrev pub types_message : List ℕ
 types_message = codes "query: the types of numbers are not told apart here"
 
--- The options are refused with this message: the query with ranks is no document, it or another option requests what it may not, or
--- some types of numbers are requested for.
-abbrev pub IsNoRequest : FindOptions → List Number → Doc → Doc → List ℤ → List ℕ → Type 0
-IsNoRequest options numbers wholes texts table message =
-    ((Fits (doc (fields_of (coded_query table numbers wholes texts))) → ⊥)
+-- The options are refused with this message: the query with ranks is no document, or it or another option requests what it may not.
+abbrev pub IsNoRequest : FindOptions → Longs → List Number → Doc → Doc → List ℤ → List ℕ → Type 0
+IsNoRequest options longs numbers wholes texts table message =
+    ((Fits (doc (fields_of (coded_query table longs numbers wholes texts))) → ⊥)
     × (message ≡ json_fault_text (codes "query") (record { kind = NotADocument; at = 0 })))
-    ⊎ ((requested_with options (valued_query numbers wholes texts) ≡ Err message)
-    ⊎ ((request : Request) × (token : Option Token)
-    × (requested_with options (valued_query numbers wholes texts) ≡ Ok (request, token))
-    × ((fields_are_alike (fields_of texts) ≡ false) ⊎ (TypesAlike request.filter → ⊥)) × (message ≡ types_message)))
+    ⊎ (requested_with options (valued_query longs numbers wholes texts) ≡ Err message)
 
--- A request by value to documents by value. Its tokens have the digest of a copy of the dump, in which each number is its rank
--- among those of the dump, and of the text of the request with such ranks.
+-- A request by value to documents by value, in which each number is in one of the two classes that each `$type` of the query treats
+-- alike. Its tokens have the digest of a copy of the dump, in which each number is its rank among those of the dump, and of the text of
+-- the request with such ranks.
 pub record IsRequestOver (options : FindOptions) (numbers : List Number) (wholes texts : Doc) (bytes : List ℕ) : Type 0 where
+  pub two_classes : has_two_classes (fields_of texts) ≡ true
   pub ds : List Doc
   pub table : List ℤ
-  pub has : HasTable bytes ds table
-  pub requests : IsRequest options numbers wholes texts table
+  pub has : HasTable (longs_of (fields_of texts)) bytes ds table
+  pub requests : IsRequest options (longs_of (fields_of texts)) numbers wholes texts table
   pub copy : List ℕ
-  pub copied : IsCopyOfDump worth (code table) bytes copy
+  pub copied : IsCopyOfDump (longs_of (fields_of texts)) worth (code table) bytes copy
 
 -- the request, with NaN as in MongoDB
 abbrev pub request_by_value : List ℤ → Request → Request → Request
 request_by_value table request coded = record request { filter = beside_nan table request.filter; text = coded.text }
 
--- The options are refused with this message over a dump of all types.
+-- The options are refused with this message over a dump of all types: two classes of numbers are not enough for the query; or they
+-- are, and there is no such request.
 abbrev pub IsRefusedOver : FindOptions → List Number → Doc → Doc → List ℕ → List ℕ → Type 0
 IsRefusedOver options numbers wholes texts bytes message =
-    (ds : List Doc) × (table : List ℤ) × HasTable bytes ds table × IsNoRequest options numbers wholes texts table message
+    ((has_two_classes (fields_of texts) ≡ false) × (message ≡ types_message))
+    ⊎ ((has_two_classes (fields_of texts) ≡ true) × ((ds : List Doc) × (table : List ℤ) × HasTable (longs_of (fields_of texts)) bytes ds table
+    × IsNoRequest options (longs_of (fields_of texts)) numbers wholes texts table message))
 
 -- ---- a run
 

@@ -2,5 +2,4 @@ pub mod Coded
 pub mod Find
 pub mod Load
 pub mod Printer
-pub mod Types
 pub mod inside

@@ -13,15 +13,14 @@ ghost use Rattle.bd_wide_find.specs.Coded.{CopiesDump, IsTableOf};
 ghost use Rattle.bd_wide_find.specs.inside.Fault.{ReportsAs};
 ghost use Rattle.bd_wide_find.specs.inside.Question.{SearchesBy, SearchesCopy};
 
-use crate::types::takes_types_alike;
 use bd_bson_dump::{Dump, index_dump};
 use bd_cli_args::FindOptions;
 use bd_cli_find::{Search, SearchFault, json_message, read_search_with};
 use bd_cursor_request::Request;
 use bd_extjson_fault::{JsonFault, JsonFaultKind};
 use bd_value::NoMemory;
-use bd_wide_copy::WideDump;
-use bd_wide_query::{WideQuery, code_query, exclude_nan};
+use bd_wide_copy::{Longs, WideDump};
+use bd_wide_query::{WideQuery, classes_of, code_query, exclude_nan};
 use bd_wide_rank::Table;
 use std::alloc::Global;
 
@@ -45,9 +44,12 @@ pub(crate) fn code(
     ensures fault { IfErr result (ReportsAs (IsRefusedOver options.now query.now.numbers.items
         (pairs query.now.wholes) (pairs query.now.texts) (bytes_of dump.now))) }
 {
+    let Some(longs) = classes_of(&query.texts) else {
+        return Err(SearchFault::Message(String::from_str(alloc, TYPES)?));
+    };
     let table = table_of(alloc, dump)?;
-    let search = coded_search(alloc, options, query, &table)?;
-    let copy = coded_copy(alloc, dump, &table)?;
+    let search = coded_search(alloc, options, query, &table, longs)?;
+    let copy = coded_copy(alloc, dump, &table, longs)?;
     Ok(Coded { search, copy })
 }
 
@@ -73,13 +75,21 @@ fn coded_search(
     options: &FindOptions,
     query: &WideQuery,
     table: &Table,
+    longs: Longs,
 ) -> Result<Search, SearchFault>
-    ensures search { IfOk result (SearchesBy options.now query.now.numbers.items
+    ensures search { IfOk result (SearchesBy options.now longs query.now.numbers.items
         (pairs query.now.wholes) (pairs query.now.texts) (worths table.now)) }
-    ensures fault { IfErr result (ReportsAs (IsNoRequest options.now query.now.numbers.items
+    ensures fault { IfErr result (ReportsAs (IsNoRequest options.now longs query.now.numbers.items
         (pairs query.now.wholes) (pairs query.now.texts) (worths table.now))) }
 {
-    let coded = code_query(alloc, &query.wholes, &query.texts, &query.numbers, table)?;
+    let coded = code_query(
+        alloc,
+        &query.wholes,
+        &query.texts,
+        &query.numbers,
+        table,
+        longs,
+    )?;
     let Some(coded) = coded else {
         return Err(SearchFault::Message(json_message(alloc, "query", NOT_A_DOCUMENT)?));
     };
@@ -89,9 +99,6 @@ fn coded_search(
         token,
     } = read_search_with(alloc, coded, options)?;
     let request = beside_nan(alloc, request, table)?;
-    if !takes_types_alike(&query.texts, &request.filter) {
-        return Err(SearchFault::Message(String::from_str(alloc, TYPES)?));
-    }
     Ok(Search {
         request,
         index,
@@ -130,17 +137,22 @@ const NOT_A_DOCUMENT: JsonFault = JsonFault {
     at: 0,
 };
 
-/// The message for `$type` of some of the types of numbers.
+/// The message for a query whose `$type`s tell more than two classes of numbers apart.
 const TYPES: &str = "query: the types of numbers are not told apart here";
 
-/// The copy of a dump, with the codes of the numbers of a table.
-pub fn coded_copy(alloc: Global, dump: &WideDump, table: &Table) -> Result<Dump, NoMemory>
+/// The copy of a dump, with the codes of the numbers of a table, by the classes of their types.
+pub fn coded_copy(
+    alloc: Global,
+    dump: &WideDump,
+    table: &Table,
+    longs: Longs,
+) -> Result<Dump, NoMemory>
     requires { AreDocuments (bytes_of dump.now) }
-    ensures { IfOk result (CopiesDump (bytes_of dump.now) (worths table.now)) }
+    ensures { IfOk result (CopiesDump longs (bytes_of dump.now) (worths table.now)) }
 {
     table.codes_fit();
     let mut bytes = Vec::new(alloc);
-    dump.write_copy(table, &mut bytes)?;
+    dump.write_copy(table, longs, &mut bytes)?;
     let copy = index_dump(alloc, bytes)?;
     Ok(copy)
 }

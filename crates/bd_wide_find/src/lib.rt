@@ -1,6 +1,7 @@
 //! A search over a dump of all 21 types of BSON 1.1.
 //!
-//! What is searched is a copy of the dump, with a code in place of each number. What is printed are the documents of the dump
+//! What is searched is a copy of the dump, with a code in place of each number: an int32 or an int64, by the two classes of types that the
+//! query tells apart by `$type`. What is printed are the documents of the dump
 //! itself: document n of the copy is document n of the dump.
 //!
 //! An example, which `bd_wide_find_tests` proves and runs as `examples::find_by_value`:
@@ -40,7 +41,6 @@
 //! - `question`: what its query and its options ask.
 //! - `load`: `load_wide`, a dump of all types in memory: `specs/Load.antt`.
 //! - `coded`: the search with codes, and the copy that is searched: `specs/Coded.antt`.
-//! - `types`: whether a query distinguishes the types of numbers: `specs/Types.antt`.
 //! - `printer`: `WidePrinter`, which prints the documents of the dump: `specs/Printer.antt`; `WideBytes` and `NamedBytes`, which print
 //!   their bytes.
 //! - `laws`: a request with codes selects of the copy what the request by value selects of the documents.
@@ -52,10 +52,8 @@ mod laws;
 mod load;
 mod printer;
 mod question;
-mod types;
 
 pub use coded::{beside_nan, coded_copy, table_of};
 pub use laws::coded_copies_answer_by_value;
 pub use load::load_wide;
 pub use printer::{NamedBytes, WideBytes, WidePrinter};
-pub use types::takes_types_alike;

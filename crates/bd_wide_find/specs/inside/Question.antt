@@ -1,12 +1,14 @@
 -- What the parts of a run of `find` give.
 use Rattle.std.specs.Prelude.{◌≡◌, ℤ, true, List, ℕ, Ok}
-use Rattle.bd_value.specs.{Tree.Doc, View.pairs}
+use Rattle.bd_value.specs.{Tree.Doc, Tree.fields_of, View.pairs}
 use Rattle.bd_cursor_request.specs.Request.{request_view}
 use Rattle.bd_cli_args.specs.FindOptions.{FindOptions}
 use Rattle.bd_cli_find.specs.Options.{fits_batch, requested_with}
 use Rattle.bd_cli_find.specs.declared.options.Search.{Search}
 use Rattle.bd_wide_number.specs.declared.number.Number.{Number}
 use Rattle.bd_wide_order.specs.{Query.renumber_request, Ranks.table_codes}
+use Rattle.bd_wide_copy.specs.declared.longs.Longs.{Longs}
+use Rattle.bd_wide_query.specs.Types.{has_two_classes, longs_of}
 use Rattle.bd_wide_substitute.specs.Both.{IsRead}
 use Rattle.bd_wide_find.specs.Coded.{CopiesDump}
 use Rattle.bd_wide_find.specs.Find.{HasTable, IsRequest, request_by_value}
@@ -20,16 +22,17 @@ pub record ReadsOptions (text : List ℕ) (options : FindOptions) (q : Question)
   pub fits : fits_batch options.batch ≡ true
 
 -- The search is that of the query with codes: ranks among the numbers of a table.
-abbrev pub SearchesBy : FindOptions → List Number → Doc → Doc → List ℤ → Search → Type 0
-SearchesBy options numbers wholes texts table search = (requests : IsRequest options numbers wholes texts table)
+abbrev pub SearchesBy : FindOptions → Longs → List Number → Doc → Doc → List ℤ → Search → Type 0
+SearchesBy options longs numbers wholes texts table search = (requests : IsRequest options longs numbers wholes texts table)
     × (search.token ≡ requests.token)
     × (request_view search.request
     ≡ renumber_request (table_codes table) requests.coded.text (request_by_value table requests.request requests.coded))
 
 -- The search with codes, and the copy.
 pub record SearchesCopy (options : FindOptions) (numbers : List Number) (wholes texts : Doc) (bytes : List ℕ) (c : Coded) : Type 0 where
+  pub two_classes : has_two_classes (fields_of texts) ≡ true
   pub ds : List Doc
   pub table : List ℤ
-  pub has : HasTable bytes ds table
-  pub searches : SearchesBy options numbers wholes texts table c.search
-  pub copies : CopiesDump bytes table c.copy
+  pub has : HasTable (longs_of (fields_of texts)) bytes ds table
+  pub searches : SearchesBy options (longs_of (fields_of texts)) numbers wholes texts table c.search
+  pub copies : CopiesDump (longs_of (fields_of texts)) bytes table c.copy

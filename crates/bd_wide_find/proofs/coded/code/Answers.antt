@@ -9,11 +9,11 @@ pub returns-in_err-search-clause-fault : goal.returns-in_err-search-clause-fault
 returns-in_err-search-clause-fault c =
     let p = err_from_is_err_and c.from_residual-in_err-search.result c.from_residual-in_err-search.ensures.1 in
     let q = c.args.query.now in
-    rw (p.1, p.2) (refused_over c.args.options.now q.numbers.items (pairs q.wholes) (pairs q.texts) (bytes_of c.args.dump.now) c.requires
+    rw (p.1, p.2) (refused_over c.args.options.now q.numbers.items (pairs q.wholes) (pairs q.texts) (bytes_of c.args.dump.now) c.requires c.in-Some.longs c.in-Some.ensures.classes c.in-Some.ensures.enough
     (worths c.in_ok-table.table) c.in_ok-table.ensures c.in_err-search.field-0.0 c.in_err-search.ensures.fault)
 
 pub returns-clause-coded : goal.returns-clause-coded
 returns-clause-coded c =
     let q = c.args.query.now in
-    searches_copy c.args.options.now q.numbers.items (pairs q.wholes) (pairs q.texts) (bytes_of c.args.dump.now) c.requires
+    searches_copy c.args.options.now q.numbers.items (pairs q.wholes) (pairs q.texts) (bytes_of c.args.dump.now) c.requires c.in-Some.longs c.in-Some.ensures.classes c.in-Some.ensures.enough
     (worths c.in_ok-table.table) c.in_ok-table.ensures _ c.in_ok-search.ensures.search c.in_ok-copy.ensures

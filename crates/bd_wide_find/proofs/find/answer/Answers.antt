@@ -2,6 +2,8 @@ use Rattle.std.proofs.Common.{rules, [], ◌≡◌, ap, arith, vec_len, ℕ, Lis
 use Rattle.std.proofs.lemmas.{Bool.Decides.nat_tests, List.nil_from_length}
 use Rattle.bd_cli_args.specs.FindOptions.{FindOptions}
 use Rattle.bd_wide_copy.specs.Dump.{bytes_of}
+use Rattle.bd_value.specs.{Tree.fields_of, View.pairs}
+use Rattle.bd_wide_query.specs.Types.{longs_of}
 use Rattle.bd_wide_number.specs.declared.number.Number.{Number}
 use Rattle.bd_wide_find.specs.Find.{HasValues}
 use Rattle.bd_wide_find.proofs.SearchLemmas.{by_value_run, can_print_copied, few_copied, plain_run, refused_run}
@@ -17,17 +19,17 @@ returns-then-is_plain g c = λ text file requests read.
 pub print_form-requires-clause-within_limit : goal.print_form-requires-clause-within_limit
 print_form-requires-clause-within_limit g c =
     let s = c.in-Ok.ensures.coded in
-    few_copied (bytes_of c.args.dump) s.table c.in-Ok.field-0.copy s.ds s.has.are s.copies
+    few_copied (longs_of (fields_of (pairs c.args.question.query.texts))) (bytes_of c.args.dump) s.table c.in-Ok.field-0.copy s.ds s.has.are s.copies
 
 pub print_form-requires-clause-texts : goal.print_form-requires-clause-texts
 print_form-requires-clause-texts g c =
     let s = c.in-Ok.ensures.coded in
-    can_print_copied (bytes_of c.args.dump) s.table c.in-Ok.field-0.copy s.ds s.has.are s.copies
+    can_print_copied (longs_of (fields_of (pairs c.args.question.query.texts))) (bytes_of c.args.dump) s.table c.in-Ok.field-0.copy s.ds s.has.are s.copies
 
 pub print_form-requires-clause-bytes : goal.print_form-requires-clause-bytes
 print_form-requires-clause-bytes g c =
     let s = c.in-Ok.ensures.coded in
-    can_print_copied (bytes_of c.args.dump) s.table c.in-Ok.field-0.copy s.ds s.has.are s.copies
+    can_print_copied (longs_of (fields_of (pairs c.args.question.query.texts))) (bytes_of c.args.dump) s.table c.in-Ok.field-0.copy s.ds s.has.are s.copies
 
 pub returns-in-Ok : goal.returns-in-Ok
 returns-in-Ok g c = λ text file requests read.
