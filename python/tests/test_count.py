@@ -365,6 +365,8 @@ class Counts(Room):
         run = run_package("count", str(mixed), str(PEOPLE), "--query", '{"v":4.99}')
         self.assertEqual((run.returncode, run.stdout), (0, "1\n"), run.stderr)
         run = run_package("count", str(mixed), str(PEOPLE), "--query", '{"v":{"$type":"double"}}')
+        self.assertEqual((run.returncode, run.stdout), (0, "1\n"), run.stderr)
+        run = run_package("count", str(mixed), str(PEOPLE), "--query", '{"v":{"$type":"double"},"w":{"$type":"decimal"}}')
         self.assertEqual((run.returncode, run.stdout), (2, ""), run.stderr)
         self.assertIn("the types of numbers are not told apart here", run.stderr)
         self.count(PEOPLE, "--query", '{"$a":1}', status=2, told='bsonkit: filter: place "$a": unknown operator\n')

@@ -34,6 +34,9 @@ from .support import DAMAGED, PATIENCE, PEOPLE, PEOPLE_LINES, PROGRAM, Room, env
 
 NAN = {"$numberDouble": "NaN"}
 NOT_TOLD = "the types of numbers are not told apart here"
+NUMBER_TYPES = {1: "double", 16: "int", 18: "long", 19: "decimal"}
+# The types of the prices of the goods, in turn.
+PRICE_TYPES = [{"double"}, {"int"}, {"double"}, {"double", "int"}, {"double"}, set()]
 # Prices of both types with fractions, as a migration leaves them: the double 4.99 is a bit more than the decimal128 4.99.
 PRICES = [
     document(whole("_id", 0), double("price", 4.99)),
@@ -136,13 +139,18 @@ class Goods(Dumps):
             (self.room / "starts").unlink()
 
     def test_types_of_numbers(self) -> None:
-        """One that could not be told from another is refused, by number or name; all of them are a question."""
+        """Two classes of them are told apart, by number or name; three are refused."""
         for kind in ("double", "int", "long", "decimal", 1, 16, 18, 19, ["double", "string"], ["int", "long"], ["double", "decimal"]):
+            kinds = {NUMBER_TYPES.get(it, it) for it in (kind if isinstance(kind, list) else [kind])}
+            wanted = [place for place, types in enumerate(PRICE_TYPES) if kinds & types]
             for filter in ({"price": {"$type": kind}}, {"$nor": [{"price": {"$not": {"$type": kind}}}]}):
-                for ask in (lambda: list(find(self.path, filter, program=PROGRAM)), lambda: count_documents(self.path, filter, program=PROGRAM)):
-                    with self.assertRaises(CommandError, msg=filter) as raised:
-                        ask()
-                    self.assertEqual((raised.exception.layer, raised.exception.text), ("numbers", NOT_TOLD))
+                self.assertEqual(self.ids(filter), wanted, filter)
+                self.assertEqual(count_documents(self.path, filter, program=PROGRAM), len(wanted), filter)
+        filter = {"price": {"$type": "double"}, "item": {"$type": "decimal"}}
+        for ask in (lambda: list(find(self.path, filter, program=PROGRAM)), lambda: count_documents(self.path, filter, program=PROGRAM)):
+            with self.assertRaises(CommandError, msg=filter) as raised:
+                ask()
+            self.assertEqual((raised.exception.layer, raised.exception.text), ("numbers", NOT_TOLD))
         self.assertEqual(self.ids({"price": {"$type": ["double", "int", "long", "decimal"]}}), [0, 1, 2, 3, 4])
         ages = sum("$numberInt" in json.loads(line).get("age", {}) for line in PEOPLE_LINES)
         self.assertEqual(count_documents(PEOPLE, {"age": {"$type": "int"}}, program=PROGRAM), ages)
@@ -406,7 +414,7 @@ class Commands(Dumps):
 
     def test_refusals(self) -> None:
         for words, told in (
-            (("--query", '{"price":{"$type":["int"]}}'), f"query: {NOT_TOLD}"),
+            (("--query", '{"price":{"$type":["int"]},"a":{"$type":"long"}}'), f"query: {NOT_TOLD}"),
             (("--query", '{"price":{"$x":1}}'), 'query: place "price.$x": unknown operator'),
             (("--query", '{"price":1.5,"a":'), "query: byte 17: not JSON"),
             (("--query", ""), "query: byte 0: not JSON"),

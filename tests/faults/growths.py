@@ -49,6 +49,8 @@ DECIMAL = bytes.fromhex("18000000 13 6400 9600000000000000 0000000000003c30 00")
 DECIMAL_LINE = '{"d":{"$numberDecimal":"1.50"}}\n'
 # {"d":1}, {"d":3} and {"a":1} of int32.
 CODED = bytes.fromhex("0c000000 10 6400 01000000 00 0c000000 10 6400 03000000 00 0c000000 10 6100 01000000 00")
+# The same where doubles are told from the other types of numbers.
+CLASSED = bytes.fromhex("10000000 12 6400 01000000 00000000 00 0c000000 10 6400 03000000 00 0c000000 10 6100 01000000 00")
 # The second element of an array in an array is a boolean of 2.
 BAD = bytes.fromhex("1c000000 04 6100 14000000 04 3000 0c000000 0a 3000 08 3100 02 00 00 00")
 FIVE = [
@@ -238,7 +240,8 @@ def wide_runs(failing: Failing) -> list[Run]:
         Run("find, bytes", ["find", "-", "--bson"], FIVE_DUMP, [document for document, _ in FIVE], counted(5, "end", 4, FIVE_DUMP)),
         Run("find, how many", ["find", "-", "--count"], FIVE_DUMP, [b"5\n"], counted(5, "end", 4, FIVE_DUMP)),
         Run("find, how many and bytes", ["find", "-", "--count", "--bson"], FIVE_DUMP, [], USAGE, 2),
-        Run("find, some types of numbers", ["find", "-", "--query", '{"d":{"$type":"double"}}'], DOUBLE, [], f"{NAME}: query: the types of numbers are not told apart here\n", 1),
+        Run("find, a type of numbers", ["find", "-", "--query", '{"d":{"$type":"double"}}'], b"".join(numbers), number_lines[:1], counted(1, "end", 0, CLASSED, query='{"d":{"$type":"long"}}')),
+        Run("find, three types of numbers", ["find", "-", "--query", '{"d":{"$type":"double"},"e":{"$type":"decimal"}}'], DOUBLE, [], f"{NAME}: query: the types of numbers are not told apart here\n", 1),
         Run("find, a bad number", ["find", "-", "--query", '{"d":{"$numberDouble":"x"}}'], DOUBLE, [], f"{NAME}: query: byte 5: bad wrapper\n", 1),
         Run("find, a bad dump", ["find", "-", "--query", '{"d":1.5}'], DOUBLE + BAD, [], f'{NAME}: document 1, byte 40, path "a.0.1": bad boolean\n', 1),
         talk("a talk", "several.bson", TALK),

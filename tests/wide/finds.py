@@ -6,8 +6,8 @@ lines, as bytes, and how many.
 
 The program is `bsonwide`. The model compares all numbers exactly, as MongoDB does. What is found must be the lines of `bsonwide dump` at
 the places of the model's answer, with `--bson` the bytes of the dump at these places, and with `--count` how many they are; standard error
-and the status stay. A query in a file has the answer of the same in an argument. A query is refused for its types only where it names some
-of the four types of numbers.
+and the status stay. A query in a file has the answer of the same in an argument. A query is refused for its types only where its `$type`s
+split the four types of numbers into more than two classes.
 """
 
 import random
@@ -22,7 +22,7 @@ sys.path[:0] = [str(Path(__file__).resolve().parents[1]), str(Path(__file__).res
 from model.answers import BadFilter, Dump, Request, check_filter, path_fault, sort_pairs
 from support import PROGRAM as BUILT
 from support import Tests, usage_of
-from questions import WideInputs, some_types
+from questions import WideInputs, more_classes
 
 PROGRAM = str(Path(sys.argv[1]).resolve()) if len(sys.argv) > 1 else str(BUILT.with_name("bsonwide"))
 DUMPS = int(sys.argv[2]) if len(sys.argv) > 2 else 40
@@ -93,7 +93,7 @@ class Finding:
             self.forms(name, words, (status, said), b"", b"")
         elif said == TYPES:
             self.refused += 1
-            self.tests.want(name, (status, found) == (1, []) and some_types(query), status)
+            self.tests.want(name, (status, found) == (1, []) and more_classes(query), status)
             self.forms(name, words, (status, said), b"", b"")
         else:
             places = model.answer(request)

@@ -5,8 +5,8 @@
 
 The program is `bsonfind`, with `bsonwide` beside it. The model compares all numbers exactly, as MongoDB does, and the documents that are
 found must be those of the dump to the byte: by runs of `bsonwide find`, whole, by an index and a page at a time, of parts, as a number,
-and by sessions with indexes. A query is refused for its types only where it names some of the four types of numbers alone. `make test`
-asks few dumps; without a number there are 20,000.
+and by sessions with indexes. A session refuses a query for its types only where it names some of the four types of numbers alone, and a
+run only where two classes of them are not enough. `make test` asks few dumps; without a number there are 20,000.
 """
 
 import random
@@ -18,7 +18,7 @@ from pathlib import Path
 
 sys.path[:0] = [str(Path(__file__).resolve().parents[1]), str(Path(__file__).resolve().parents[2] / "python")]
 
-from model.answers import BadFilter, Dump, Request, Value, check_filter, encoded, obj, path_fault, sort_pairs
+from model.answers import BadFilter, Dump, Request, Value, check_filter, encoded, number, obj, path_fault, sort_pairs, string
 from model.inputs import Inputs
 from model.texts import decimal_in
 from support import PROGRAM as BUILT
@@ -83,6 +83,18 @@ class WideInputs(Inputs):
         value = rng.choice(DOUBLES)
         return double(value if value == value or self.chance(0.3) else 1.5)
 
+    def types(self) -> Value:
+        """Mostly types of numbers, by their names and by their numbers."""
+        if self.chance(0.3):
+            return super().types()
+        chosen = self.rng.sample(sorted(NUMBERS.items()), self.rng.choice([1, 1, 2, 2, 3]))
+        named = [string(name) if self.chance(0.7) else number(code) for name, code in chosen]
+        return named[0] if len(named) == 1 and self.chance(0.7) else Value("array", tuple(named))
+
+    def operator(self, path: str, depth: int) -> tuple[str, Value]:
+        """`$type` more often."""
+        return ("$type", self.types()) if self.chance(0.08) else super().operator(path, depth)
+
     def documents(self) -> list[Value]:
         self.profile = self.rng.choice(["doubles", "doubles", "cents", "whole", "all", "all", "mixed"])
         made = super().documents()
@@ -138,9 +150,11 @@ class Asking:
             for _ in range(REQUESTS):
                 request, texts = self.request()
                 size, query = self.rng.choice([1, 3, 100]), Raw(texts[0])
-                self.ask(f"dump {number}, {texts}", model, request, lambda: list(session.find(query, **asked(request, texts), batch_size=size, decode="bson")))
+                self.ask(
+                    f"dump {number}, {texts}", model, request, lambda: list(session.find(query, **asked(request, texts), batch_size=size, decode="bson")), some_types
+                )
                 if self.rng.random() < 0.3 and not (request.skip or request.limit):
-                    self.ask(f"dump {number}, {texts}: count", model, request, lambda: session.count_documents(query), is_count=True)
+                    self.ask(f"dump {number}, {texts}: count", model, request, lambda: session.count_documents(query), some_types, is_count=True)
 
     def ask_runs(self, name: str, model: Dump, path: Path, request: Request, texts: tuple[str, str]) -> None:
         """Asks by runs: by a scan, by an index, a page at a time, by parts, and for the count."""
@@ -157,21 +171,23 @@ class Asking:
         def whole(**more: object) -> list[bytes]:
             return list(find(path, query, **how, **more, decode="bson", program=PROGRAM))
 
-        self.ask(f"{name}: a run", model, request, whole)
-        self.ask(f"{name}: an index", model, request, lambda: whole(index=self.rng.choice(["a", "b", "a.b"])))
-        self.ask(f"{name}: pages", model, request, pages)
+        self.ask(f"{name}: a run", model, request, whole, more_classes)
+        self.ask(f"{name}: an index", model, request, lambda: whole(index=self.rng.choice(["a", "b", "a.b"])), more_classes)
+        self.ask(f"{name}: pages", model, request, pages, more_classes)
         parts = plan(path, self.rng.choice([50, 200, 1000]))
-        if not some_types(request.query):
-            self.ask(f"{name}: parts", model, request, lambda: find_parts(parts, query, **how, decode="bson", program=PROGRAM))
+        if not more_classes(request.query):
+            self.ask(f"{name}: parts", model, request, lambda: find_parts(parts, query, **how, decode="bson", program=PROGRAM), more_classes)
         if not (request.skip or request.limit or request.sort.of):
-            self.ask(f"{name}: count", model, request, lambda: count_documents(path, query, program=PROGRAM), is_count=True)
+            self.ask(f"{name}: count", model, request, lambda: count_documents(path, query, program=PROGRAM), more_classes, is_count=True)
 
     def request(self) -> tuple[Request, tuple[str, str]]:
         query, sort = self.inputs.filter(), self.inputs.sort()
         request = Request(query, sort, self.rng.choice([0, 0, 0, 1, 2]), self.rng.choice([0, 0, 0, 1, 5]))
         return request, (self.inputs.text(query), self.inputs.text(sort))
 
-    def ask(self, name: str, model: Dump, request: Request, answer: Callable[[], object], is_count: bool = False) -> None:
+    def ask(
+        self, name: str, model: Dump, request: Request, answer: Callable[[], object], is_refused: Callable[[Value], bool], is_count: bool = False
+    ) -> None:
         try:
             check_filter(request.query)
             fault = None if is_count or sort_pairs(request.sort) is not None else "sort"
@@ -182,7 +198,7 @@ class Asking:
         except CommandError as error:
             if error.layer == "numbers":
                 self.refused += 1
-                self.tests.want(name, error.text == NOT_TOLD and some_types(request.query), error)
+                self.tests.want(name, error.text == NOT_TOLD and is_refused(request.query), error)
             else:
                 told = error.number if error.layer == "filter" else "sort" if error.text == "not a sort" else error.layer
                 self.tests.want(name, told == fault or (fault is not None and told in ("json", "path", "sort")), (error, fault))
@@ -195,16 +211,27 @@ class Asking:
 
 def some_types(query: Value) -> bool:
     """Whether a `$type` anywhere in a query names some of the four types of numbers, but not all."""
+    return any(0 < len(it) < len(NUMBERS) for it in _types_named(query))
+
+
+def more_classes(query: Value) -> bool:
+    """Whether the `$type`s in a query split the four types of numbers into three classes or four."""
+    named = _types_named(query)
+    return len({tuple(kind in it for it in named) for kind in NUMBERS}) > 2
+
+
+def _types_named(query: Value) -> list[set[str]]:
+    """The types of numbers that each `$type` anywhere in a query names."""
     if query.kind == "object":
-        return any((name == "$type" and _is_some(it)) or some_types(it) for name, it in query.of)
+        return [named for name, it in query.of for named in [*([_named(it)] if name == "$type" else []), *_types_named(it)]]
     if query.kind == "javascriptWithScope":
-        return some_types(query.of[1])
-    return query.kind == "array" and any(map(some_types, query.of))
+        return _types_named(query.of[1])
+    return [named for it in query.of for named in _types_named(it)] if query.kind == "array" else []
 
 
-def _is_some(operand: Value) -> bool:
+def _named(operand: Value) -> set[str]:
     members = [it.of for it in (operand.of if operand.kind == "array" else [operand])]
-    return 0 < sum(name in members or number in members or "number" in members for name, number in NUMBERS.items()) < len(NUMBERS)
+    return {name for name, number in NUMBERS.items() if name in members or number in members or "number" in members}
 
 
 class Raw(str):
