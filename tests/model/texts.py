@@ -1,13 +1,15 @@
 """Texts of Extended JSON read by Python: the document that a text is, or its first fault and the byte of it.
 
 First a text is taken as JSON, from left to right; then the tree that it is, from left to right; last it has to be a document.
-Doubles and decimal128 are read where that is said, as `bsonwide` does; else they are faults, as of `bsonfind`.
+Doubles and decimal128, and dates and UUIDs as texts, are read where that is said, as `bsonwide` does; else they are faults, as of
+`bsonfind`.
 """
 
 import base64
 import re
 import struct
 from collections.abc import Callable, Iterator
+from datetime import datetime, timedelta
 from typing import NamedTuple
 
 from model.answers import INT32, INT64, UNDEFINED, Value
@@ -28,6 +30,12 @@ WHOLE = re.compile(r"-?(?:0|[1-9][0-9]*)", re.ASCII)
 NUMBER = re.compile(rf"{WHOLE.pattern}(?:\.[0-9]+)?(?:[eE][+-]?[0-9]+)?", re.ASCII)
 DECIMAL = re.compile(r"([+-]?)(?=\.?[0-9])([0-9]*)(?:\.([0-9]*))?(?:[eE]([+-]?)([0-9]+))?", re.ASCII)
 WORD_OF_DECIMAL = re.compile(r"([+-]?)(?:(inf|infinity)|nan)", re.ASCII | re.IGNORECASE)
+# A date-time of RFC 3339, up to thousandths of a second, and a UUID.
+DATE = re.compile(
+    r"([0-9]{4})-([0-9]{2})-([0-9]{2})T([0-9]{2}):([0-9]{2}):([0-9]{2})(?:\.([0-9]{1,3}0*))?(?:Z|([+-])([0-9]{2}):?([0-9]{2}))",
+    re.ASCII,
+)
+UUID = re.compile(r"[0-9a-fA-F]{8}(?:-[0-9a-fA-F]{4}){3}-[0-9a-fA-F]{12}", re.ASCII)
 # A decimal128 has at most so many digits, and its exponent is in this range.
 DIGITS, LEAST, GREATEST = 34, -6176, 6111
 ESCAPES = {'"': '"', "\\": "\\", "/": "/", "b": "\b", "f": "\f", "n": "\n", "r": "\r", "t": "\t"}
@@ -279,13 +287,14 @@ def wrapped(node: Node, level: int, is_wide: bool) -> Value:
     """The value of an object that begins as a wrapper: its faults are told at its brace."""
     name, _, inside = node.of[0]
     is_number = name in ("$numberDouble", "$numberDecimal")
-    if name == "$uuid" or (is_number and not is_wide) or (name in ("$date", "$binary") and inside.kind == "string"):
+    is_form = name == "$uuid" or (name == "$date" and inside.kind == "string")
+    if (not is_wide and (is_number or is_form)) or (name == "$binary" and inside.kind == "string"):
         raise TextFault(NOT_IN_PROFILE, node.at)
     if name in ("$code", "$scope"):
         return code(node, level, is_wide)
     if is_number and len(node.of) == 1 and inside.kind == "string":
         return number_in(name, inside.of, node.at)
-    made = made_of(name, inside) if len(node.of) == 1 else None
+    made = (form_in(name, inside) if is_form else made_of(name, inside)) if len(node.of) == 1 else None
     if made is None:
         raise TextFault(BAD_WRAPPER, node.at)
     if made.kind == "regex" and "\0" in "".join(made.of):
@@ -329,6 +338,34 @@ def made_of(name: str, inside: Node) -> Value | None:
         case "$undefined" if (inside.kind, inside.of) == ("word", True):
             return UNDEFINED
     return None
+
+
+def form_in(name: str, inside: Node) -> Value | None:
+    """The date or the UUID that a text is, for `bsonwide`; None where it is none."""
+    if inside.kind != "string":
+        return None
+    if name == "$uuid":
+        return Value("binData", (4, bytes.fromhex(inside.of.replace("-", "")))) if UUID.fullmatch(inside.of) else None
+    made = date_in(inside.of)
+    return None if made is None else Value("date", made)
+
+
+def date_in(text: str) -> int | None:
+    """The milliseconds of a text of RFC 3339, by Python's calendar, which begins with year 1: 400 years later the days are the same."""
+    form = DATE.fullmatch(text)
+    if not form:
+        return None
+    year, *others = map(int, form.groups()[:6])
+    later = 400 if year < 400 else 0
+    try:
+        moment = datetime(year + later, *others)
+    except ValueError:
+        return None
+    sign, hours, minutes = form[8], int(form[9] or 0), int(form[10] or 0)
+    if hours > 23 or minutes > 59:
+        return None
+    seconds = (moment - datetime(1970, 1, 1)) // timedelta(seconds=1) - later // 400 * 146_097 * 86_400
+    return (seconds - (-60 if sign == "-" else 60) * (60 * hours + minutes)) * 1000 + int((form[7] or "").ljust(3, "0")[:3])
 
 
 def strict_base64(text: str) -> bytes | None:

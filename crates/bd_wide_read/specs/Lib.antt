@@ -1,3 +1,4 @@
+pub mod DateText
 pub mod DecimalText
 pub mod DoubleText
 pub mod JsonNumber

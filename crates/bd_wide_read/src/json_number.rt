@@ -51,7 +51,7 @@ fn after_exponent(bytes: &[u8]) -> Option<&[u8]>
 }
 
 /// What follows at least one digit.
-fn after_digits(bytes: &[u8]) -> Option<&[u8]>
+pub(crate) fn after_digits(bytes: &[u8]) -> Option<&[u8]>
     ensures { option_map (λ s. s.now) result ≡ after_digits_of bytes.now }
 {
     match bytes {

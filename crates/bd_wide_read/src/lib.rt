@@ -19,14 +19,18 @@
 //! - `laws`: the texts that `bd_wide_text` writes are read as what they were written for.
 #![tactic(auto)]
 
+mod date;
 mod decimal128;
 mod double;
 mod fault;
 mod json_number;
 mod laws;
+mod uuid_text;
 
+pub use date::read_date;
 pub use decimal128::read_decimal128;
 pub use double::{read_double, read_number};
 pub use fault::TextFault;
 pub use json_number::{after_number, is_number};
 pub use laws::{decimal128_text_is_read, double_text_is_read};
+pub use uuid_text::read_uuid;
