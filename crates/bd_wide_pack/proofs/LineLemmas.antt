@@ -13,9 +13,9 @@ use Rattle.bd_wide_pack.specs.WideLine.{IsBad, IsMixed, IsPacked}
 use Rattle.bd_wide_pack.specs.inside.Outcome.{AreOutcome, HasTexts, IsNotMixed, IsOutcome, IsReportedAs, first_of}
 use Rattle.bd_wide_pack.proofs.PlainLemmas.{plain_mixed}
 use Rattle.bd_wide_substitute.specs.Both.{IsRead, both_documents, document_of}
-use Rattle.bd_wide_substitute.specs.Substitutes.{ArePieces, Piece, all_numbers, text, whole, with_fillers}
+use Rattle.bd_wide_substitute.specs.Substitutes.{ArePieces, Piece, all_numbers, all_values, text, whole, with_fillers}
 use Rattle.bd_wide_substitute.specs.declared.scan.Substituted.{Substituted}
-use Rattle.bd_wide_substitute.proofs.BothLemmas.{both_is, earlier_same, no_numbers, read_ok, unread}
+use Rattle.bd_wide_substitute.proofs.BothLemmas.{both_is, earlier_same, empty_numbers, no_values, read_ok, unread}
 
 -- ---- one text
 
@@ -68,17 +68,17 @@ module _ (line : List ℕ) (pieces : List Piece) (numbers : List Number) (are : 
 
   -- the fault of the texts is that of the line, as it is reported
   pub fault_reported : (wholes texts : List ℕ) (f g : LineFault) → AreOutcome pieces wholes texts (Some f) → IsReportedAs line f g → IsBad line g
-  fault_reported wholes texts (faults.Unread f) (faults.Unread g) h reports = inl (record { pieces = pieces; are = are; first = f; documents = h; at = reports.0; kind = reports.1 })
+  fault_reported wholes texts (faults.Unread f) (faults.Unread g) h reports = inl (record { pieces = pieces; are = are; first = f; documents = h; at = reports.0 pieces are; kind = reports.1 })
   fault_reported wholes texts (faults.Unread f) faults.TooLong h reports = absurd reports
   fault_reported wholes texts faults.TooLong g h reports = subst (IsBad line) (sym reports) (is_long h.0 h.1 h.2 h.3)
 
--- ---- a line without numbers
+-- ---- a line without values
 
 -- both texts are the line
-pub plain_outcome : (line bytes : List ℕ) (ps : List Piece) → ArePieces line ps → all_numbers ps ≡ [] → (o : Option LineFault) → IsOutcome line bytes o → AreOutcome ps bytes bytes o
+pub plain_outcome : (line bytes : List ℕ) (ps : List Piece) → ArePieces line ps → all_values ps ≡ [] → (o : Option LineFault) → IsOutcome line bytes o → AreOutcome ps bytes bytes o
 plain_outcome line bytes ps are none o h =
-    let one = subst (λ (x : List ℕ). IsOutcome x bytes o) (sym (no_numbers whole line ps are none)) h in
-    let other = subst (λ (x : List ℕ). IsOutcome x bytes o) (sym (no_numbers text line ps are none)) h in
+    let one = subst (λ (x : List ℕ). IsOutcome x bytes o) (sym (no_values whole line ps are none)) h in
+    let other = subst (λ (x : List ℕ). IsOutcome x bytes o) (sym (no_values text line ps are none)) h in
     subst (λ (f : Option LineFault). AreOutcome ps bytes bytes f) (first_same o) (outcomes ps bytes bytes o o one other)
   where
     first_same : (o : Option LineFault) → first_of o o ≡ o
@@ -86,17 +86,17 @@ plain_outcome line bytes ps are none o h =
     first_same (Some (faults.Unread f)) = ap (λ (g : JsonFault). Some (faults.Unread g)) (earlier_same f)
     first_same (Some faults.TooLong) = refl
 
-module _ {E : Type 0} (line : List ℕ) (ps : List Piece) (are : ArePieces line ps) (none : all_numbers ps ≡ []) (r : Result (Option LineFault) E) where
+module _ {E : Type 0} (line : List ℕ) (ps : List Piece) (are : ArePieces line ps) (none : all_values ps ≡ []) (r : Result (Option LineFault) E) where
   pub plain_bad : {X : Type 0} (f g : LineFault) → r ≡ Ok (Some f) → IfOk r (λ o. IfSome o (λ f. plainly.IsBad line f × X)) → IsReportedAs line f g → IsBad line g × X
   plain_bad {X} f g is bad reports =
       let h : plainly.IsBad line f × X = subst (λ (r : Result (Option LineFault) E). IfOk r (λ o. IfSome o (λ f. plainly.IsBad line f × X))) is bad in
-      (fault_reported line ps [] are (sym none) [] [] f g (plain_outcome line [] ps are none (Some f) (bad_outcome line [] f h.0)) reports, h.1)
+      (fault_reported line ps [] are (sym (empty_numbers ps none)) [] [] f g (plain_outcome line [] ps are none (Some f) (bad_outcome line [] f h.0)) reports, h.1)
 
   pub plain_packed : (old new : List ℕ) → ((line : List ℕ) (d : Doc) → IsPackable line d → IsDocument d (plain d)) → r ≡ Ok None
       → (r ≡ Ok None → (d : Doc) × IsPackable line d × (new ≡ old ++ plain d)) → (bytes : List ℕ) × IsPacked line bytes × (new ≡ old ++ bytes)
   plain_packed old new law is packed =
       let h = packed is in
       let reads : document_of line ≡ Ok h.0 = read_ok line h.0 h.1.0 in
-      let wholes : document_of (with_fillers whole ps) ≡ Ok h.0 = ap (λ (x : List ℕ). document_of x) (no_numbers whole line ps are none) ∙ reads in
-      let texts : document_of (with_fillers text ps) ≡ Ok h.0 = ap (λ (x : List ℕ). document_of x) (no_numbers text line ps are none) ∙ reads in
-      (plain h.0, is_packed line ps [] are (sym none) h.0 h.0 (both_is ps (Ok h.0) (Ok h.0) wholes texts) (plain h.0) (plain_mixed h.0 (law line h.0 h.1)) h.1.1, h.2)
+      let wholes : document_of (with_fillers whole ps) ≡ Ok h.0 = ap (λ (x : List ℕ). document_of x) (no_values whole line ps are none) ∙ reads in
+      let texts : document_of (with_fillers text ps) ≡ Ok h.0 = ap (λ (x : List ℕ). document_of x) (no_values text line ps are none) ∙ reads in
+      (plain h.0, is_packed line ps [] are (sym (empty_numbers ps none)) h.0 h.0 (both_is ps (Ok h.0) (Ok h.0) wholes texts) (plain h.0) (plain_mixed h.0 (law line h.0 h.1)) h.1.1, h.2)

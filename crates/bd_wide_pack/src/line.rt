@@ -1,11 +1,11 @@
-//! A line of Extended JSON with doubles and decimal128 as the bytes of the document that it is.
+//! A line of Extended JSON with doubles and decimal128, and dates and UUIDs as texts, as the bytes of the document that it is.
 
 ghost use Rattle.std.specs.Prelude.{◌≡◌, ◌≤◌, ◌++◌, List, ℕ, IfOk, IfSome, OnErr, Ok, None, length};
 ghost use Rattle.bd_value.specs.{Limits.longest_document, Tree.Doc};
 ghost use Rattle.bd_bson_view.specs.Spelling.{IsDocument};
 ghost use Rattle.bd_wide_pack.specs.WideLine.{IsBad, IsMixed, IsPacked};
 ghost use Rattle.bd_wide_pack.specs.inside.Outcome.{HasTexts, IsNotMixed, IsOutcome, IsReportedAs, first_of};
-ghost use Rattle.bd_wide_substitute.specs.Both.{HasNoNumbers};
+ghost use Rattle.bd_wide_substitute.specs.Both.{HasNoValues};
 
 use crate::step::mix;
 use bd_extjson_fault::{JsonFault, JsonFaultKind};
@@ -41,8 +41,8 @@ impl WidePacker {
         }
     }
 
-    /// Appends the bytes of the document that the line is (Extended JSON v2, canonical form, and bare numbers; BSON 1.1,
-    /// `document`, all types), or returns why it is none, with `out` unchanged.
+    /// Appends the bytes of the document that the line is (Extended JSON v2, canonical form, bare numbers, and dates and UUIDs as
+    /// texts; BSON 1.1, `document`, all types), or returns why it is none, with `out` unchanged.
     ///
     /// # Errors
     /// `NoMemory` if memory runs out; `out` is unchanged.
@@ -64,9 +64,9 @@ impl WidePacker {
         }
     }
 
-    /// The same for a line without doubles and decimal128: its bytes are those of its document of nineteen types.
+    /// The same for a line without such values: its bytes are those of its document of nineteen types.
     fn pack_plain(&mut self, line: &[u8], out: &mut Vec<u8>) -> Result<Option<LineFault>, NoMemory>
-        requires { HasNoNumbers line.now }
+        requires { HasNoValues line.now }
         ensures packed { result ≡ Ok None → (bytes : List ℕ) × IsPacked line.now bytes
             × (out.new.items ≡ out.old.items ++ bytes) }
         ensures bad { IfOk result (λ o. IfSome o (λ f. IsBad line.now f

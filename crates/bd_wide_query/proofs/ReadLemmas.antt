@@ -10,7 +10,7 @@ use Rattle.bd_extjson_fault.specs.declared.json_fault.JsonFaultKind.TheVariants.
 use Rattle.bd_wide_query.specs.inside.Read.{ReadsBoth}
 use Rattle.bd_wide_substitute.specs.Both.{IsUnread, both, both_documents, document_of, earlier}
 use Rattle.bd_wide_substitute.specs.Reported.{IsReported}
-use Rattle.bd_wide_substitute.specs.Substitutes.{ArePieces, Piece, all_numbers}
+use Rattle.bd_wide_substitute.specs.Substitutes.{ArePieces, Piece, all_values, origin}
 use Rattle.bd_wide_substitute.proofs.BothLemmas.{both_of, unread}
 
 -- ---- two texts
@@ -26,11 +26,11 @@ both_unread one other f g first none is no_other other_is chosen some =
 -- ---- a text by its pieces
 
 module _ (source : List ℕ) (pieces : List Piece) (are : ArePieces source pieces) where
-  pub query_unread : (first fault : JsonFault) → (first.kind ≢ NoMemory → both_documents pieces ≡ Err first) → fault.at ≡ first.at → IsReported (drop first.at source) first.kind fault.kind
+  pub query_unread : (first fault : JsonFault) → (first.kind ≢ NoMemory → both_documents pieces ≡ Err first) → fault.at ≡ origin pieces first.at → IsReported (drop fault.at source) first.kind fault.kind
       → fault.kind ≢ NoMemory → IsUnread source fault
   query_unread first fault e at kind some =
-      record { pieces = pieces; are = are; first = first; documents = e (λ none. some (subst (λ (k : JsonFaultKind). IsReported (drop first.at source) k fault.kind) none kind)); at = at; kind = kind }
+      record { pieces = pieces; are = are; first = first; documents = e (λ none. some (subst (λ (k : JsonFaultKind). IsReported (drop fault.at source) k fault.kind) none kind)); at = at; kind = kind }
 
-  -- without numbers both texts are the text
-  pub plain_both : (r : Result (Document × Document) JsonFault) → all_numbers pieces ≡ [] → ReadsBoth (both (document_of source) (document_of source)) r → ReadsBoth (both_documents pieces) r
+  -- without values both texts are the text
+  pub plain_both : (r : Result (Document × Document) JsonFault) → all_values pieces ≡ [] → ReadsBoth (both (document_of source) (document_of source)) r → ReadsBoth (both_documents pieces) r
   plain_both r none h = subst (λ (b : Result (Doc × Doc) JsonFault). ReadsBoth b r) (sym (both_of source pieces are none)) h

@@ -1,4 +1,4 @@
-//! The text of a query that may have doubles and decimal128.
+//! The text of a query that may have doubles and decimal128, and dates and UUIDs as texts.
 
 ghost use Rattle.std.specs.Prelude.{◌≡◌, ◌≢◌, ◌↔◌, IfErr, IfOk, IsTrue, List};
 ghost use Rattle.bd_value.specs.View.{pairs};
@@ -25,11 +25,11 @@ pub struct WideQuery {
     pub numbers: Vec<Number>,
 }
 
-/// Reads the text of a query: Extended JSON v2, canonical form, and bare numbers.
+/// Reads the text of a query: Extended JSON v2, canonical form, bare numbers, and dates and UUIDs as texts.
 ///
 /// # Errors
 /// Those of `read_doc` of `bd_extjson`, with the byte of the text: of a text with such numbers the earlier fault of the two
-/// texts that have other values for them. A number out of range and a bad text of a number have errors of their own.
+/// texts that have other values for them. A number out of range and a bad text of a value have errors of their own.
 /// `NoMemory` if memory runs out.
 pub fn read_query(alloc: Global, text: &[u8]) -> Result<WideQuery, JsonFault>
     ensures query { IfOk result (λ q.

@@ -1,7 +1,9 @@
-//! Texts of numbers, and what they are read as, and lines with other values for their numbers. The expected bits and texts are
+//! Texts of numbers, dates and UUIDs, and what they are read as, and lines with other values for their numbers. The expected bits and texts are
 //! worked by hand, by IEEE 754 and by the rules of `bd_wide_substitute`.
 #![tactic(auto)]
 
+#[cfg(test)]
+mod dates;
 #[cfg(test)]
 mod decimals;
 #[cfg(test)]

@@ -1,6 +1,7 @@
 //! Lines with other values for their numbers.
+use bd_extjson_fault::{JsonFault, JsonFaultKind};
 use bd_wide_number::Number;
-use bd_wide_substitute::{Substituted, substitute};
+use bd_wide_substitute::{Substituted, fault_of_line, substitute};
 use std::alloc::Global;
 use std::process::Abort;
 use std::test::Fail;
@@ -63,6 +64,33 @@ fn wrappers(rt: HostRuntime) -> Result<(), Fail> {
     )
 }
 
+#[test]
+fn dates_and_uuids(rt: HostRuntime) -> Result<(), Fail> {
+    let mut made = Substituted::new(rt.alloc());
+    let line =
+        b"{\"a\":{\"$date\":\"2026-10-01T00:00:00Z\"},\"b\":1.5,\"c\":{\"$uuid\":\"00000000-0000-0000-0000-000000000000\"}}";
+    assert!(rt; substitute(line, &mut made)?);
+    assert!(rt; made.numbers.len() == 1);
+    let wholes =
+        b"{\"a\":{\"$date\":{\"$numberLong\":\"1790812800000\"}},\"b\":0  ,\"c\":{\"$binary\":{\"base64\":\"AAAAAAAAAAAAAAAAAAAAAA==\",\"subType\":\"04\"}}}";
+    assert!(rt; made.wholes.as_slice() == wholes.as_slice());
+    let texts =
+        b"{\"a\":{\"$date\":{\"$numberLong\":\"1790812800000\"}},\"b\":\"\" ,\"c\":{\"$binary\":{\"base64\":\"AAAAAAAAAAAAAAAAAAAAAA==\",\"subType\":\"04\"}}}";
+    assert!(rt; made.texts.as_slice() == texts.as_slice());
+    // a fault after them, by the byte of the line
+    let fault = JsonFault {
+        kind: JsonFaultKind::Syntax,
+        at: wholes.len() as u64,
+    };
+    assert!(rt; fault_of_line(line, fault).at == line.len() as u64);
+    let at_number = JsonFault {
+        kind: JsonFaultKind::Syntax,
+        at: 51,
+    };
+    assert!(rt; fault_of_line(line, at_number).at == 42);
+    Ok(())
+}
+
 /// The line stays as it is.
 fn stays(rt: &impl Abort, alloc: Global, line: &[u8]) -> Result<(), Fail> {
     becomes(rt, alloc, (line, line, line), 0)
@@ -84,6 +112,9 @@ fn others(rt: HostRuntime) -> Result<(), Fail> {
     stays(&rt, alloc, b"{\"$numberDouble\":1.}")?;
     stays(&rt, alloc, b"{\"$numberDouble\":\"1\",\"a\":1}")?;
     stays(&rt, alloc, b"{\"$numberDecimal\":\"1E9999\"}")?;
+    stays(&rt, alloc, b"{\"$date\":{\"$numberLong\":\"1\"}}")?;
+    stays(&rt, alloc, b"{\"$date\":\"2026-10-01\"}")?;
+    stays(&rt, alloc, b"{\"$uuid\":\"\"}")?;
     stays(&rt, alloc, b"{\"$numberLong\":\"1\"}")
 }
 

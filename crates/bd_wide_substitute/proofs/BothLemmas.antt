@@ -1,18 +1,24 @@
 -- The two documents of a text, or its fault.
-use Rattle.std.proofs.Common.{◌≡◌, ℕ, nat_lt, ◌==◌, ◌&&◌, not, Bool, true, false, ◌||◌, cond, List, [], ◌∷◌, ◌++◌, drop, refl, sym, ap, ◌∙◌, subst, Option, Some, None, Result, Ok, Err}
+use Rattle.std.proofs.Common.{◌≡◌, ℕ, nat_lt, ◌≤◌, ◌==◌, ◌&&◌, not, length, arith, Bool, true, false, ◌||◌, cond, List, [], ◌∷◌, ◌++◌, drop, refl, sym, ap, ◌∙◌, subst, Option, Some, None, Result, Ok, Err}
+use Rattle.std.proofs.lemmas.Str.{utf8_valid_len_le}
 use Rattle.std.specs.Option.{ok_or}
 use Rattle.bd_value.specs.Tree.{Doc}
 use Rattle.bd_extjson.specs.Read.{ReadsAs, reading}
-use Rattle.bd_extjson_fault.specs.TextFault.{text_fault}
+use Rattle.bd_value.specs.Limits.{most_brackets, most_levels}
+use Rattle.bd_extjson_fault.specs.JsonSyntax.{beyond_text}
+use Rattle.bd_extjson_fault.specs.TextFault.{fault_after, first_fault_in, text_fault, tree_or_none}
+use Rattle.bd_extjson_fault.specs.TreeFault.{opens_document, value_fault}
+use Rattle.std.specs.{Prelude.unwrap_or, Str.is_utf8, Str.Lossy.utf8_valid_len}
 use Rattle.bd_extjson_fault.specs.declared.json_fault.JsonFault.{JsonFault}
 use Rattle.bd_extjson_fault.specs.declared.json_fault.JsonFaultKind.{JsonFaultKind}
 use Rattle.bd_extjson_fault.specs.declared.json_fault.JsonFaultKind.TheVariants as kinds
 use Rattle.bd_wide_number.specs.declared.number.Number.{Number}
-use Rattle.bd_wide_substitute.specs.Both.{HasNoNumbers, IsRead, IsUnread, both, both_documents, document_of, earlier, has_no_byte, is_bad_wrapper}
-use Rattle.bd_wide_substitute.specs.Substitutes.{ArePieces, Filler, Piece, Wrapper, all_numbers, number, same, text, whole, with_fillers, wrapper_at}
+use Rattle.bd_wide_substitute.specs.Both.{HasNoValues, IsRead, IsUnread, both, both_documents, document_of, earlier, has_no_byte, is_bad_wrapper}
+use Rattle.bd_wide_substitute.specs.Substitutes.{ArePieces, Filler, Piece, Wrapper, all_numbers, all_values, origin, value, same, text, whole, with_fillers, wrapper_at}
 use Rattle.bd_wide_substitute.specs.Reported.{IsKindBy, IsKindHere, IsReported, begins_number, kind_of_meaning}
 use Rattle.bd_wide_substitute.proofs.MeaningLemmas.{meant_once}
 use Rattle.bd_wide_substitute.proofs.OnceLemmas.{alike}
+use Rattle.bd_wide_substitute.proofs.OriginLemmas.{same_byte}
 
 -- ---- one text
 
@@ -25,6 +31,21 @@ unread source f none is = go (reading source) refl
     go : (r : Option Doc) → reading source ≡ r → document_of source ≡ Err f
     go None e = ap (λ (r : Option Doc). ok_or r (text_fault source)) e ∙ ap (λ (g : JsonFault). Err g) (sym is)
     go (Some d) e = absurd (none d e)
+
+-- a fault is inside its text
+fault_within : (source : List ℕ) → (text_fault source).at ≤ length source
+unfolding first_fault_in
+fault_within source =
+    elim (is_utf8 source) as (λ b. (unwrap_or {T = JsonFault} (cond b (fault_after source (beyond_text source)) (Some (record { kind = kinds.Syntax; at = utf8_valid_len source }))) (record { kind = kinds.Syntax; at = length source })).at ≤ length source) [
+      | true ↦ elim (beyond_text source) as (λ r. (unwrap_or {T = JsonFault} (fault_after source r) (record { kind = kinds.Syntax; at = length source })).at ≤ length source) [
+        | Err stop ↦ omega arith
+        | Ok rest ↦ elim (value_fault most_brackets most_levels source) as (λ f. (unwrap_or {T = JsonFault} (tree_or_none source f) (record { kind = kinds.Syntax; at = length source })).at ≤ length source) [
+          | Some fault ↦ omega arith
+          | None ↦ elim (opens_document source) as (λ b. (unwrap_or {T = JsonFault} (cond b None (Some (record { kind = kinds.NotADocument; at = 0 }))) (record { kind = kinds.Syntax; at = length source })).at ≤ length source) [ true ↦ omega arith | false ↦ omega arith ]
+        ]
+      ]
+      | false ↦ utf8_valid_len_le source
+    ]
 
 -- ---- both texts
 
@@ -40,16 +61,21 @@ always f false false false = refl
 pub earlier_same : (f : JsonFault) → earlier f f ≡ f
 earlier_same f = always f (has_no_byte f.kind) (has_no_byte f.kind || nat_lt f.at f.at) (f.at == f.at && not (is_bad_wrapper f.kind))
 
--- ---- a text without numbers
+-- ---- a text without values
 
 -- both texts are the text
-pub no_numbers : (s : Filler) (line : List ℕ) (ps : List Piece) → ArePieces line ps → all_numbers ps ≡ [] → with_fillers s ps ≡ line
-no_numbers s line [] are e = sym are
-no_numbers s line (same bytes ∷ ps) are e = ap (λ (x : List ℕ). bytes ++ x) (no_numbers s are.0 ps are.3 e) ∙ sym are.1
-no_numbers s line (number bytes n ∷ ps) are e = absurd (let c : n ∷ all_numbers ps ≡ [] = e in cc)
+pub no_values : (s : Filler) (line : List ℕ) (ps : List Piece) → ArePieces line ps → all_values ps ≡ [] → with_fillers s ps ≡ line
+no_values s line [] are e = sym are
+no_values s line (same bytes ∷ ps) are e = ap (λ (x : List ℕ). bytes ++ x) (no_values s are.0 ps are.3 e) ∙ sym are.1
+no_values s line (value bytes v ∷ ps) are e = absurd (let c : v ∷ all_values ps ≡ [] = e in cc)
 
-pub both_of : (source : List ℕ) (ps : List Piece) → ArePieces source ps → all_numbers ps ≡ [] → both_documents ps ≡ both (document_of source) (document_of source)
-both_of source ps are none = λ i. both (document_of (no_numbers whole source ps are none i)) (document_of (no_numbers text source ps are none i))
+pub empty_numbers : (ps : List Piece) → all_values ps ≡ [] → all_numbers ps ≡ []
+empty_numbers [] e = refl
+empty_numbers (same bytes ∷ ps) e = empty_numbers ps e
+empty_numbers (value bytes v ∷ ps) e = absurd (let c : v ∷ all_values ps ≡ [] = e in cc)
+
+pub both_of : (source : List ℕ) (ps : List Piece) → ArePieces source ps → all_values ps ≡ [] → both_documents ps ≡ both (document_of source) (document_of source)
+both_of source ps are none = λ i. both (document_of (no_values whole source ps are none i)) (document_of (no_values text source ps are none i))
 
 twice_ok : (r : Option Doc) (f : JsonFault) (w t : Doc) → both (ok_or r f) (ok_or r f) ≡ Ok (w, t) → (r ≡ Some w) × (r ≡ Some t)
 twice_ok None f w t e = absurd cc
@@ -59,18 +85,19 @@ twice_err : (r : Option Doc) (f first : JsonFault) → both (ok_or r f) (ok_or r
 twice_err None f first e = let same : earlier f f ≡ first = cc in (refl, sym same ∙ earlier_same f)
 twice_err (Some d) f first e = absurd cc
 
-pub read_alike : (source : List ℕ) (w t : Doc) (numbers : List Number) → HasNoNumbers source → IsRead source w t numbers → (numbers ≡ []) × ReadsAs source w × ReadsAs source t
+pub read_alike : (source : List ℕ) (w t : Doc) (numbers : List Number) → HasNoValues source → IsRead source w t numbers → (numbers ≡ []) × ReadsAs source w × ReadsAs source t
 read_alike source w t numbers plain read =
-    let none : all_numbers read.pieces ≡ [] = (alike read.pieces plain.0 source read.are plain.1).numbers ∙ plain.2 in
+    let none : all_values read.pieces ≡ [] = (alike read.pieces plain.0 source read.are plain.1).values ∙ plain.2 in
     let d = twice_ok (reading source) (text_fault source) w t (sym (both_of source read.pieces read.are none) ∙ read.documents) in
-    (read.all ∙ none, d.0, d.1)
+    (read.all ∙ empty_numbers read.pieces none, d.0, d.1)
 
-pub unread_alike : (source : List ℕ) (fault : JsonFault) → HasNoNumbers source → IsUnread source fault
+pub unread_alike : (source : List ℕ) (fault : JsonFault) → HasNoValues source → IsUnread source fault
     → (reading source ≡ None) × (fault.at ≡ (text_fault source).at) × IsReported (drop (text_fault source).at source) (text_fault source).kind fault.kind
 unread_alike source fault plain bad =
-    let none : all_numbers bad.pieces ≡ [] = (alike bad.pieces plain.0 source bad.are plain.1).numbers ∙ plain.2 in
+    let none : all_values bad.pieces ≡ [] = (alike bad.pieces plain.0 source bad.are plain.1).values ∙ plain.2 in
     let first = twice_err (reading source) (text_fault source) bad.first (sym (both_of source bad.pieces bad.are none) ∙ bad.documents) in
-    (first.0, bad.at ∙ ap (λ (f : JsonFault). f.at) first.1, subst (λ (f : JsonFault). IsReported (drop f.at source) f.kind fault.kind) first.1 bad.kind)
+    let at : fault.at ≡ (text_fault source).at = bad.at ∙ ap (λ (f : JsonFault). origin bad.pieces f.at) first.1 ∙ same_byte bad.pieces source (text_fault source).at (fault_within source) bad.are none in
+    (first.0, at, subst (λ (k : JsonFaultKind). IsReported (drop (text_fault source).at source) k fault.kind) (ap (λ (f : JsonFault). f.kind) first.1) (subst (λ (n : ℕ). IsReported (drop n source) bad.first.kind fault.kind) at bad.kind))
 
 -- ---- one text is read once
 
@@ -118,9 +145,10 @@ read_once source w t v s numbers others h k =
 pub unread_once : (source : List ℕ) (fault other : JsonFault) → IsUnread source fault → IsUnread source other → fault ≡ other
 unread_once source fault other h k =
     let first : h.first ≡ k.first = first_is h.first k.first (both_documents h.pieces) h.documents (same_documents source h.pieces k.pieces h.are k.are ∙ k.documents) in
-    let reported : IsReported (drop k.first.at source) k.first.kind fault.kind = subst (λ (f : JsonFault). IsReported (drop f.at source) f.kind fault.kind) first h.kind in
-    let kind : fault.kind ≡ other.kind = reported_once (drop k.first.at source) k.first.kind fault.kind other.kind reported k.kind in
-    let at : fault.at ≡ other.at = h.at ∙ ap (λ (f : JsonFault). f.at) first ∙ sym k.at in
+    let at : fault.at ≡ other.at = h.at ∙ ap (λ (f : JsonFault). origin h.pieces f.at) first ∙ (alike h.pieces k.pieces source h.are k.are).origins k.first.at ∙ sym k.at in
+    let reported : IsReported (drop other.at source) k.first.kind fault.kind =
+    subst (λ (f : JsonFault). IsReported (drop other.at source) f.kind fault.kind) first (subst (λ (n : ℕ). IsReported (drop n source) h.first.kind fault.kind) at h.kind) in
+    let kind : fault.kind ≡ other.kind = reported_once (drop other.at source) k.first.kind fault.kind other.kind reported k.kind in
     (λ i. record { kind = kind i; at = at i })
 
 pub read_or_unread : (source : List ℕ) (w t : Doc) (numbers : List Number) (fault : JsonFault) → IsRead source w t numbers → IsUnread source fault → ⊥

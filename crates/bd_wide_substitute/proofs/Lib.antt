@@ -2,3 +2,4 @@ pub mod BothLemmas
 pub mod MeaningLemmas
 pub mod OnceLemmas
 pub mod PieceLemmas
+pub mod OriginLemmas

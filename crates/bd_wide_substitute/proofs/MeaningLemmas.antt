@@ -1,16 +1,16 @@
 -- The contents of a wrapper mean at most one number, or have one fault.
 use Rattle.std.proofs.Common.{◌≡◌, ◌<◌, ℕ, ◌+◌, ◌-◌, ◌*◌, ◌%◌, ◌^◌, List, refl, sym, ap, ◌∙◌, inl, inr, arith, Result, Ok, Err}
 use Rattle.std.proofs.lemmas.Bool.{cases_lt}
-use Rattle.bd_wide_number.specs.declared.number.Number.{Number}
 use Rattle.bd_wide_number.specs.declared.number.Number.TheVariants.{Whole, Double, Decimal128}
 use Rattle.bd_wide_read.specs.DecimalText as numerics
 use Rattle.bd_wide_read.specs.DecimalText.{IsExact, IsRead, IsWorth, Numeric, Scaled, high_half, numeric_of}
-use Rattle.bd_wide_read.specs.DoubleText.{double_bits}
 use Rattle.bd_wide_read.specs.declared.fault.TextFault.{TextFault}
 use Rattle.bd_wide_read.specs.declared.fault.TextFault.TheVariants.{BadText, OutOfRange}
 use Rattle.bd_wide_read.proofs.TenLemmas.{grows, joined, moved}
-use Rattle.bd_wide_substitute.specs.declared.wrapped.NumberType.{NumberType}
-use Rattle.bd_wide_substitute.specs.declared.wrapped.NumberType.TheVariants as types
+use Rattle.bd_wide_substitute.specs.declared.wrapped.ValueType.{ValueType}
+use Rattle.bd_wide_substitute.specs.declared.wrapped.ValueType.TheVariants as types
+use Rattle.bd_wide_substitute.specs.declared.wrapped.WideValue.{WideValue}
+use Rattle.bd_wide_substitute.specs.declared.wrapped.WideValue.TheVariants as values
 use Rattle.bd_wide_substitute.specs.Substitutes.{IsMeant}
 
 bits_are : (bits others : ℕ × ℕ) (r : Result (ℕ × ℕ) TextFault) → Ok bits ≡ r → Ok others ≡ r → bits ≡ others
@@ -75,36 +75,28 @@ decimal_read_once numerics.none (Err f) (Ok others) h k = h ∙ sym k
 pub double_is : (bits others : ℕ) (r : Result ℕ TextFault) → r ≡ Ok bits → r ≡ Ok others → bits ≡ others
 double_is bits others r e f = let both : Ok bits ≡ Ok others = sym e ∙ f in cc
 
-fault_is : (f g : TextFault) (r : Result ℕ TextFault) → r ≡ Err f → r ≡ Err g → f ≡ g
-fault_is f g r e h = let both : Err f ≡ Err g = sym e ∙ h in cc
-
-never_both : (bits : ℕ) (f : TextFault) (r : Result ℕ TextFault) → r ≡ Ok bits → r ≡ Err f → ⊥
-never_both bits f r e h = let both : Ok bits ≡ Err f = sym e ∙ h in cc
-
 -- a result with the number of its bits
-abbrev numbered : Result (ℕ × ℕ) TextFault → Result Number TextFault
-numbered (Ok bits) = Ok (Decimal128 bits.0 bits.1)
+abbrev numbered : Result (ℕ × ℕ) TextFault → Result WideValue TextFault
+numbered (Ok bits) = Ok (values.Number (Decimal128 bits.0 bits.1))
 numbered (Err f) = Err f
 
+decimal_meant : (contents : List ℕ) (one other : Result WideValue TextFault) → IsMeant types.Decimal128 contents one → IsMeant types.Decimal128 contents other → one ≡ other
+decimal_meant contents (Ok (values.Number (Decimal128 low high))) (Ok (values.Number (Decimal128 others upper))) h k = ap numbered (decimal_read_once (numeric_of contents) (Ok (low, high)) (Ok (others, upper)) h k)
+decimal_meant contents (Ok (values.Number (Decimal128 low high))) (Err f) h k = ap numbered (decimal_read_once (numeric_of contents) (Ok (low, high)) (Err f) h k)
+decimal_meant contents (Err f) (Ok (values.Number (Decimal128 low high))) h k = ap numbered (decimal_read_once (numeric_of contents) (Err f) (Ok (low, high)) h k)
+decimal_meant contents (Err f) (Err g) h k = ap numbered (decimal_read_once (numeric_of contents) (Err f) (Err g) h k)
+decimal_meant contents (Ok (values.Number (Double bits))) other h k = absurd h
+decimal_meant contents (Ok (values.Number (Whole z))) other h k = absurd h
+decimal_meant contents (Ok (values.Date z)) other h k = absurd h
+decimal_meant contents (Ok (values.Uuid bytes)) other h k = absurd h
+decimal_meant contents one (Ok (values.Number (Double bits))) h k = absurd k
+decimal_meant contents one (Ok (values.Number (Whole z))) h k = absurd k
+decimal_meant contents one (Ok (values.Date z)) h k = absurd k
+decimal_meant contents one (Ok (values.Uuid bytes)) h k = absurd k
+
 -- contents have one meaning
-pub meant_once : (type : NumberType) (contents : List ℕ) (one other : Result Number TextFault) → IsMeant type contents one → IsMeant type contents other → one ≡ other
-meant_once types.Double contents (Ok (Double bits)) (Ok (Double others)) h k = ap (λ (b : ℕ). Ok (Double b)) (double_is bits others (double_bits contents) h k)
-meant_once types.Double contents (Ok (Double bits)) (Err f) h k = absurd (never_both bits f (double_bits contents) h k)
-meant_once types.Double contents (Ok (Double bits)) (Ok (Whole z)) h k = absurd k
-meant_once types.Double contents (Ok (Double bits)) (Ok (Decimal128 low high)) h k = absurd k
-meant_once types.Double contents (Ok (Whole z)) other h k = absurd h
-meant_once types.Double contents (Ok (Decimal128 low high)) other h k = absurd h
-meant_once types.Double contents (Err f) (Ok (Double bits)) h k = absurd (never_both bits f (double_bits contents) k h)
-meant_once types.Double contents (Err f) (Ok (Whole z)) h k = absurd k
-meant_once types.Double contents (Err f) (Ok (Decimal128 low high)) h k = absurd k
-meant_once types.Double contents (Err f) (Err g) h k = ap (λ (f : TextFault). Err f) (fault_is f g (double_bits contents) h k)
-meant_once types.Decimal128 contents (Ok (Decimal128 low high)) (Ok (Decimal128 others upper)) h k = ap numbered (decimal_read_once (numeric_of contents) (Ok (low, high)) (Ok (others, upper)) h k)
-meant_once types.Decimal128 contents (Ok (Decimal128 low high)) (Ok (Double bits)) h k = absurd k
-meant_once types.Decimal128 contents (Ok (Decimal128 low high)) (Ok (Whole z)) h k = absurd k
-meant_once types.Decimal128 contents (Ok (Decimal128 low high)) (Err f) h k = ap numbered (decimal_read_once (numeric_of contents) (Ok (low, high)) (Err f) h k)
-meant_once types.Decimal128 contents (Ok (Double bits)) other h k = absurd h
-meant_once types.Decimal128 contents (Ok (Whole z)) other h k = absurd h
-meant_once types.Decimal128 contents (Err f) (Ok (Decimal128 low high)) h k = ap numbered (decimal_read_once (numeric_of contents) (Err f) (Ok (low, high)) h k)
-meant_once types.Decimal128 contents (Err f) (Ok (Double bits)) h k = absurd k
-meant_once types.Decimal128 contents (Err f) (Ok (Whole z)) h k = absurd k
-meant_once types.Decimal128 contents (Err f) (Err g) h k = ap numbered (decimal_read_once (numeric_of contents) (Err f) (Err g) h k)
+pub meant_once : (type : ValueType) (contents : List ℕ) (one other : Result WideValue TextFault) → IsMeant type contents one → IsMeant type contents other → one ≡ other
+meant_once types.Double contents one other h k = h ∙ sym k
+meant_once types.Date contents one other h k = h ∙ sym k
+meant_once types.Uuid contents one other h k = h ∙ sym k
+meant_once types.Decimal128 contents one other h k = decimal_meant contents one other h k

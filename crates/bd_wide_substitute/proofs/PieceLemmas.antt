@@ -10,9 +10,11 @@ use Rattle.bd_wide_read.specs.declared.fault.TextFault.{TextFault}
 use Rattle.bd_wide_read.specs.JsonNumber.{is_number}
 use Rattle.bd_wide_read.specs.declared.fault.TextFault.TheVariants.{BadText}
 use Rattle.bd_wide_substitute.specs.declared.scan.Substituted.{Substituted}
-use Rattle.bd_wide_substitute.specs.declared.wrapped.NumberType.{NumberType}
-use Rattle.bd_wide_substitute.specs.declared.wrapped.NumberType.TheVariants as types
-use Rattle.bd_wide_substitute.specs.Substitutes.{ArePieces, BeginsNumber, IsBare, IsBefore, IsMeant, IsNoDouble, IsRun, Piece, Wrapper, same, number, Filler, filler_of, after, after_string, after_word, all_numbers, before_brace, is_blank, is_no_quote, is_of_number, last_string, numbers_in, original, filled, quoted, quoted_before, strip, text, whole, with_fillers, wrapper_at, wrapper_inside}
+use Rattle.bd_wide_substitute.specs.declared.wrapped.ValueType.{ValueType}
+use Rattle.bd_wide_substitute.specs.declared.wrapped.ValueType.TheVariants as types
+use Rattle.bd_wide_substitute.specs.declared.wrapped.WideValue.{WideValue}
+use Rattle.bd_wide_substitute.specs.declared.wrapped.WideValue.TheVariants as values
+use Rattle.bd_wide_substitute.specs.Substitutes.{ArePieces, BeginsValue, IsBare, IsBefore, IsDouble, IsMeant, IsNoDouble, IsRun, Piece, Wrapper, same, value, Filler, all_values, named, number_of, value_text, values_in, after, after_string, after_word, all_numbers, before_brace, is_blank, is_no_quote, is_of_number, last_string, numbers_in, original, filled, quoted, quoted_before, strip, text, whole, with_fillers, wrapper_at, wrapper_inside}
 use Rattle.bd_wide_substitute.specs.inside.Taken.{AreTaken, IsFound, IsPiece}
 use Rattle.bd_wide_substitute.proofs.MeaningLemmas.{meant_once}
 
@@ -67,8 +69,8 @@ string_prefix (c ∷ d ∷ ds) =
 -- ---- numbers
 
 -- a number with a fraction or an exponent has two bytes at least
-number_of : (bytes : List ℕ) (bits : ℕ) → number_bits bytes ≡ Ok bits → is_number bytes ≡ true
-number_of bytes bits h =
+is_number_of : (bytes : List ℕ) (bits : ℕ) → number_bits bytes ≡ Ok bits → is_number bytes ≡ true
+is_number_of bytes bits h =
     elim (is_number bytes) as (λ b. is_number bytes ≡ b → b ≡ true) [
       | true ↦ λ e. refl
       | false ↦ λ e. absurd (let c : number_bits bytes ≡ Err BadText = rw e in let d : Err BadText ≡ Ok bits = sym c ∙ h in cc)
@@ -78,10 +80,10 @@ number_of bytes bits h =
 alone : (c : ℕ) → list_any (λ d. d == 46 || d == 69 || d == 101) (c ∷ []) ≡ true → is_number (c ∷ []) ≡ true → ⊥
 alone c some is = search (rules, nat_tests)
 
-bare_long : (bits : ℕ) (bytes : List ℕ) → IsBare (Double bits) bytes → 2 ≤ length bytes
+bare_long : (bits : ℕ) (bytes : List ℕ) → IsDouble bits bytes → 2 ≤ length bytes
 bare_long bits [] h = absurd (let e = h.0 in cc)
 bare_long bits (c ∷ d ∷ cs) h = omega arith
-bare_long bits (c ∷ []) h = absurd (alone c h.0 (number_of (c ∷ []) bits h.1))
+bare_long bits (c ∷ []) h = absurd (alone c h.0 (is_number_of (c ∷ []) bits h.1))
 
 -- ---- pieces at the start
 
@@ -110,33 +112,33 @@ module _ (bytes run : List ℕ) (n : ℕ) (less : length (after is_of_number byt
       let b = run_before bytes n less count in
       record { piece = same (take n bytes); is = refl; before = inr (inl (b.0, subst IsNoDouble is none)); some = b.1; within = b.2 }
 
-  pub double_found : (bits : ℕ) → IsBare (Double bits) run → IsFound bytes n (Some (Double bits))
+  pub double_found : (bits : ℕ) → IsDouble bits run → IsFound bytes n (Some (values.Number (Double bits)))
   double_found bits bare =
       let b = run_before bytes n less count in
       let long : 2 ≤ n = omega (arith, bare_long bits run bare, ap length is, length-take n bytes, b.2) in
-      record { piece = number (take n bytes) (Double bits); is = (refl, refl, long); before = inr (subst (IsBare (Double bits)) is bare, b.0); some = b.1; within = b.2 }
+      record { piece = value (take n bytes) (values.Number (Double bits)); is = (refl, refl, long); before = inr ((bits, refl, subst (IsDouble bits) is bare), b.0); some = b.1; within = b.2 }
 
-pub other_found : (bytes cs : List ℕ) (c : ℕ) → bytes ≡ c ∷ cs → (c ≢ 34) → is_of_number c ≡ false → ((n : Number) (more : List ℕ) → BeginsNumber bytes n more → ⊥) → IsFound bytes 1 None
+pub other_found : (bytes cs : List ℕ) (c : ℕ) → bytes ≡ c ∷ cs → (c ≢ 34) → is_of_number c ≡ false → ((v : WideValue) (more : List ℕ) → BeginsValue bytes v more → ⊥) → IsFound bytes 1 None
 other_found bytes cs c is quote apart none =
     let whole : c ∷ drop 1 bytes ≡ bytes = ap (λ t. c ∷ t) (ap (drop 1) is) ∙ sym is in
     record {
       piece = same (take 1 bytes);
       is = refl;
-      before = inr (inr (c, ap (take 1) is, quote, apart, λ n more h. none n more (subst (λ b. BeginsNumber b n more) whole h)));
+      before = inr (inr (c, ap (take 1) is, quote, apart, λ n more h. none n more (subst (λ b. BeginsValue b n more) whole h)));
       some = omega arith;
       within = omega (arith, ap length is);
     }
 
-pub wrapped_found : (bytes rest : List ℕ) (x : Number) (n : ℕ) → (object : List ℕ) × (2 ≤ length object) × (bytes ≡ object ++ rest) → n ≡ length bytes - length rest
-    → BeginsNumber bytes x rest → IsFound bytes n (Some x)
+pub wrapped_found : (bytes rest : List ℕ) (x : WideValue) (n : ℕ) → (object : List ℕ) × (2 ≤ length object) × (bytes ≡ object ++ rest) → n ≡ length bytes - length rest
+    → BeginsValue bytes x rest → IsFound bytes n (Some x)
 wrapped_found bytes rest x n object count begins =
     let c = split_here bytes object.0 rest n object.2 count in
-    let here : BeginsNumber bytes x (drop n bytes) = subst (λ r. BeginsNumber bytes x r) (sym c.1) begins in
+    let here : BeginsValue bytes x (drop n bytes) = subst (λ r. BeginsValue bytes x r) (sym c.1) begins in
     let long : 2 ≤ n = omega (arith, c.2, object.1) in
     record {
-      piece = number (take n bytes) x;
+      piece = value (take n bytes) x;
       is = (refl, refl, long);
-      before = inl (subst (λ b. BeginsNumber b x (drop n bytes)) (sym (take-append-drop n bytes)) here);
+      before = inl (subst (λ b. BeginsValue b x (drop n bytes)) (sym (take-append-drop n bytes)) here);
       some = omega (arith, long);
       within = c.3;
     }
@@ -159,7 +161,12 @@ numbers_more : (ps : List Piece) (p : Piece) → all_numbers (ps ++ (p ∷ [])) 
 numbers_more [] p = append-nil (numbers_in p)
 numbers_more (q ∷ qs) p = ap (λ t. numbers_in q ++ t) (numbers_more qs p) ∙ sym (append_assoc (numbers_in q) (all_numbers qs) (numbers_in p))
 
-start : (line : List ℕ) (made : Substituted) → made.wholes.items ≡ [] → made.texts.items ≡ [] → made.numbers.items ≡ [] → AreTaken line line line made
+values_same : (ps : List Piece) (first : List ℕ) → all_values ps ≡ [] → all_values (ps ++ (same first ∷ [])) ≡ []
+values_same [] first none = refl
+values_same (same bytes ∷ ps) first none = values_same ps first none
+values_same (value bytes v ∷ ps) first none = absurd (let e : v ∷ all_values ps ≡ [] = none in cc)
+
+start : (line : List ℕ) (made : Substituted) → made.wholes.items ≡ [] → made.texts.items ≡ [] → made.numbers.items ≡ [] → AreTaken false line line line made
 start line made w t n = record {
   pieces = [];
   before = λ more h. h;
@@ -168,12 +175,13 @@ start line made w t n = record {
   wholes = ap (λ (x : List ℕ). x ++ []) w;
   texts = ap (λ (x : List ℕ). x ++ []) t;
   numbers = n;
+  none = λ e. refl;
 }
 
-pub taken_none : (line : List ℕ) (made : Substituted) → (made.wholes.items ≡ []) × (made.texts.items ≡ []) × (made.numbers.items ≡ []) → AreTaken line line line made
+pub taken_none : (line : List ℕ) (made : Substituted) → (made.wholes.items ≡ []) × (made.texts.items ≡ []) × (made.numbers.items ≡ []) → AreTaken false line line line made
 taken_none line made e = start line made e.0 e.1 e.2
 
-module _ (line pending rest : List ℕ) (n : ℕ) (old : Substituted) (all : AreTaken line pending rest old) where
+module _ (has : Bool) (line pending rest : List ℕ) (n : ℕ) (old : Substituted) (all : AreTaken has line pending rest old) where
   more_before : (p : Piece) → original p ≡ take n rest → IsBefore p (drop n rest) → (more : List Piece) → ArePieces (drop n rest) more → ArePieces line ((all.pieces ++ (p ∷ [])) ++ more)
   more_before p is here more h = subst (ArePieces line) (sym (append_assoc all.pieces (p ∷ []) more))
       (all.before (p ∷ more) (drop n rest, sym (take-append-drop n rest) ∙ ap (λ t. t ++ drop n rest) (sym is), here, h))
@@ -182,7 +190,7 @@ module _ (line pending rest : List ℕ) (n : ℕ) (old : Substituted) (all : Are
   filled_on s made p e = ap (λ t. t ++ filled s p) e ∙ sym (filled_more s all.pieces p)
 
   -- one more piece that stays
-  same_on : (first : List ℕ) → first ≡ take n rest → IsBefore (same first) (drop n rest) → AreTaken line pending (drop n rest) old
+  same_on : (first : List ℕ) → first ≡ take n rest → IsBefore (same first) (drop n rest) → AreTaken has line pending (drop n rest) old
   same_on first is here = record {
     pieces = all.pieces ++ (same first ∷ []);
     before = more_before (same first) is here;
@@ -191,16 +199,17 @@ module _ (line pending rest : List ℕ) (n : ℕ) (old : Substituted) (all : Are
     wholes = sym (append_assoc old.wholes.items all.skipped first) ∙ filled_on whole old.wholes.items (same first) all.wholes;
     texts = sym (append_assoc old.texts.items all.skipped first) ∙ filled_on text old.texts.items (same first) all.texts;
     numbers = all.numbers ∙ sym (append-nil (all_numbers all.pieces)) ∙ sym (numbers_more all.pieces (same first));
+    none = λ e. values_same all.pieces first (all.none e);
   }
 
-  taken_same : IsFound rest n None → AreTaken line pending (drop n rest) old
+  taken_same : IsFound rest n None → AreTaken has line pending (drop n rest) old
   taken_same found = go found.piece found.is found.before
     where
-      go : (p : Piece) → IsPiece rest n None p → IsBefore p (drop n rest) → AreTaken line pending (drop n rest) old
+      go : (p : Piece) → IsPiece rest n None p → IsBefore p (drop n rest) → AreTaken has line pending (drop n rest) old
       go (same first) is here = same_on first is here
-      go (number first x) is here = absurd is
+      go (value first x) is here = absurd is
 
-  pub taken_other : (found : Option Number) → IsFound rest n found → ((x : Number) → found ≡ Some x → ⊥) → AreTaken line pending (drop n rest) old
+  pub taken_other : (found : Option WideValue) → IsFound rest n found → ((x : WideValue) → found ≡ Some x → ⊥) → AreTaken has line pending (drop n rest) old
   taken_other None h none = taken_same h
   taken_other (Some x) h none = absurd (none x refl)
 
@@ -210,14 +219,14 @@ module _ (line pending rest : List ℕ) (n : ℕ) (old : Substituted) (all : Are
       let long : length pending ≡ length all.skipped + length rest = ap length all.split ∙ length-append all.skipped rest in
       is ∙ ap (take (length pending - length rest)) all.split ∙ take_at all.skipped rest (length pending - length rest) (omega arith)
 
-  number_on : (new : Substituted) (x : Number) (first : List ℕ) → first ≡ take n rest → n ≤ length rest → IsBefore (number first x) (drop n rest)
-      → new.wholes.items ≡ old.wholes.items ++ (all.skipped ++ filler_of whole n) → new.texts.items ≡ old.texts.items ++ (all.skipped ++ filler_of text n) → new.numbers.items ≡ old.numbers.items ++ x ∷ []
-      → AreTaken line (drop n rest) (drop n rest) new
-  number_on new x first is within here w t k =
+  value_on : (new : Substituted) (x : WideValue) (first : List ℕ) → first ≡ take n rest → n ≤ length rest → IsBefore (value first x) (drop n rest)
+      → new.wholes.items ≡ old.wholes.items ++ (all.skipped ++ value_text whole n x) → new.texts.items ≡ old.texts.items ++ (all.skipped ++ value_text text n x) → new.numbers.items ≡ old.numbers.items ++ number_of x
+      → AreTaken true line (drop n rest) (drop n rest) new
+  value_on new x first is within here w t k =
       let long : n ≡ length first = omega (arith, ap length is, length-take n rest) in
-      let p : Piece = number first x in
-      let both = λ (s : Filler) (made put : List ℕ) (e : made ++ all.skipped ≡ with_fillers s all.pieces) (f : put ≡ made ++ (all.skipped ++ filler_of s n)).
-      append-nil put ∙ f ∙ sym (append_assoc made all.skipped (filler_of s n)) ∙ ap (λ (k : ℕ). (made ++ all.skipped) ++ filler_of s k) long ∙ filled_on s made p e in
+      let p : Piece = value first x in
+      let both = λ (s : Filler) (made put : List ℕ) (e : made ++ all.skipped ≡ with_fillers s all.pieces) (f : put ≡ made ++ (all.skipped ++ value_text s n x)).
+      append-nil put ∙ f ∙ sym (append_assoc made all.skipped (value_text s n x)) ∙ ap (λ (k : ℕ). (made ++ all.skipped) ++ value_text s k x) long ∙ filled_on s made p e in
       record {
         pieces = all.pieces ++ (p ∷ []);
         before = more_before p is here;
@@ -225,34 +234,35 @@ module _ (line pending rest : List ℕ) (n : ℕ) (old : Substituted) (all : Are
         split = refl;
         wholes = both whole old.wholes.items new.wholes.items all.wholes w;
         texts = both text old.texts.items new.texts.items all.texts t;
-        numbers = k ∙ ap (λ (y : List Number). y ++ x ∷ []) all.numbers ∙ sym (numbers_more all.pieces p);
+        numbers = k ∙ ap (λ (y : List Number). y ++ number_of x) all.numbers ∙ sym (numbers_more all.pieces p);
+        none = λ e. absurd (let f : true ≡ false = e in cc);
       }
 
-  pub taken_number : (new : Substituted) (x : Number) (before : List ℕ) → before ≡ take (length pending - length rest) pending → IsFound rest n (Some x)
-      → new.wholes.items ≡ old.wholes.items ++ (before ++ filler_of whole n) → new.texts.items ≡ old.texts.items ++ (before ++ filler_of text n) → new.numbers.items ≡ old.numbers.items ++ x ∷ []
-      → AreTaken line (drop n rest) (drop n rest) new
-  taken_number new x before is found w t k =
+  pub taken_value : (new : Substituted) (x : WideValue) (before : List ℕ) → before ≡ take (length pending - length rest) pending → IsFound rest n (Some x)
+      → new.wholes.items ≡ old.wholes.items ++ (before ++ value_text whole n x) → new.texts.items ≡ old.texts.items ++ (before ++ value_text text n x) → new.numbers.items ≡ old.numbers.items ++ number_of x
+      → AreTaken true line (drop n rest) (drop n rest) new
+  taken_value new x before is found w t k =
       let e = skipped_is before is in
-      let w1 = w ∙ ap (λ (y : List ℕ). old.wholes.items ++ (y ++ filler_of whole n)) e in
-      let t1 = t ∙ ap (λ (y : List ℕ). old.texts.items ++ (y ++ filler_of text n)) e in
+      let w1 = w ∙ ap (λ (y : List ℕ). old.wholes.items ++ (y ++ value_text whole n x)) e in
+      let t1 = t ∙ ap (λ (y : List ℕ). old.texts.items ++ (y ++ value_text text n x)) e in
       go found.piece found.is found.before w1 t1
     where
-      go : (p : Piece) → IsPiece rest n (Some x) p → IsBefore p (drop n rest) → new.wholes.items ≡ old.wholes.items ++ (all.skipped ++ filler_of whole n)
-          → new.texts.items ≡ old.texts.items ++ (all.skipped ++ filler_of text n) → AreTaken line (drop n rest) (drop n rest) new
+      go : (p : Piece) → IsPiece rest n (Some x) p → IsBefore p (drop n rest) → new.wholes.items ≡ old.wholes.items ++ (all.skipped ++ value_text whole n x)
+          → new.texts.items ≡ old.texts.items ++ (all.skipped ++ value_text text n x) → AreTaken true line (drop n rest) (drop n rest) new
       go (same first) h here w1 t1 = absurd h
-      go (number first y) h here w1 t1 = number_on new x first h.0 found.within (subst (λ (z : Number). IsBefore (number first z) (drop n rest)) (sym h.1) here) w1 t1 k
+      go (value first y) h here w1 t1 = value_on new x first h.0 found.within (subst (λ (z : WideValue). IsBefore (value first z) (drop n rest)) (sym h.1) here) w1 t1 k
 
 -- nothing remains
-pub taken_all : (line pending rest : List ℕ) (made : Substituted) → AreTaken line pending rest made → length rest < 1 → made.numbers.items ≡ [] → (pieces : List Piece) × ArePieces line pieces × (all_numbers pieces ≡ [])
-taken_all line pending [] made all none empty = (all.pieces, subst (ArePieces line) (append-nil all.pieces) (all.before [] refl), sym all.numbers ∙ empty)
-taken_all line pending (c ∷ cs) made all none empty = absurd (omega arith)
+pub taken_all : (line pending rest : List ℕ) (made : Substituted) → AreTaken false line pending rest made → length rest < 1 → (pieces : List Piece) × ArePieces line pieces × (all_values pieces ≡ [])
+taken_all line pending [] made all none = (all.pieces, subst (ArePieces line) (append-nil all.pieces) (all.before [] refl), all.none refl)
+taken_all line pending (c ∷ cs) made all none = absurd (omega arith)
 
-pub taken_both : (line pending rest wholes texts : List ℕ) (numbers : List Number) (made : Substituted) → AreTaken line pending rest made → length rest < 1 → wholes ≡ made.wholes.items ++ pending → texts ≡ made.texts.items ++ pending
+pub taken_both : (has : Bool) (line pending rest wholes texts : List ℕ) (numbers : List Number) (made : Substituted) → AreTaken has line pending rest made → length rest < 1 → wholes ≡ made.wholes.items ++ pending → texts ≡ made.texts.items ++ pending
     → numbers ≡ made.numbers.items → (pieces : List Piece) × ArePieces line pieces × ((wholes ≡ with_fillers whole pieces) × (texts ≡ with_fillers text pieces) × (numbers ≡ all_numbers pieces))
-taken_both line pending [] wholes texts numbers made all none w t n =
+taken_both has line pending [] wholes texts numbers made all none w t n =
     let e : pending ≡ all.skipped = all.split ∙ append-nil all.skipped in
     (all.pieces, subst (ArePieces line) (append-nil all.pieces) (all.before [] refl), (w ∙ ap (λ (x : List ℕ). made.wholes.items ++ x) e ∙ all.wholes, t ∙ ap (λ (x : List ℕ). made.texts.items ++ x) e ∙ all.texts, n ∙ all.numbers))
-taken_both line pending (c ∷ cs) wholes texts numbers made all none w t n = absurd (omega arith)
+taken_both has line pending (c ∷ cs) wholes texts numbers made all none w t n = absurd (omega arith)
 
 -- ---- wrappers
 
@@ -312,7 +322,7 @@ string_end bytes contents rest e = colon (after_word (codes ":") bytes) refl e
     colon (Some t) is h = both_before bytes t rest (word_before (codes ":") bytes t is) (quote t (after_word (codes "\"") t) refl h)
 
 -- the object of a wrapper is before what follows it
-pub object_of : (bytes contents rest : List ℕ) (type : NumberType) → wrapper_at bytes ≡ Some (type, Some (contents, rest)) → (object : List ℕ) × (2 ≤ length object) × (bytes ≡ object ++ rest)
+pub object_of : (bytes contents rest : List ℕ) (type : ValueType) → wrapper_at bytes ≡ Some (type, Some (contents, rest)) → (object : List ℕ) × (2 ≤ length object) × (bytes ≡ object ++ rest)
 object_of [] contents rest type e = absurd cc
 object_of (c ∷ inside) contents rest type e =
     elim (c == 123) as (λ b. cond b (wrapper_inside inside) None ≡ Some (type, Some (contents, rest)) → (object : List ℕ) × (2 ≤ length object) × (c ∷ inside ≡ object ++ rest)) [
@@ -330,34 +340,41 @@ object_of (c ∷ inside) contents rest type e =
         let two : 2 ≤ length object = omega (arith, length-append s.prefix (name ++ t.0), length-append name t.0) in
         (object, two, ap (λ x. c ∷ x) (all ∙ ap (λ x. s.prefix ++ (name ++ x)) t.1 ∙ simp append_assoc))
 
-    decimal : (q : Option (List ℕ)) → after_word (codes "\"$numberDecimal\"") inside ≡ q → option_map {U = Wrapper} (λ end. (types.Decimal128, last_string end)) q ≡ Some (type, Some (contents, rest))
-        → (object : List ℕ) × (2 ≤ length object) × (c ∷ inside ≡ object ++ rest)
-    decimal None is h = absurd cc
-    decimal (Some end) is h = let same : last_string end ≡ Some (contents, rest) = ap (λ (w : Wrapper). w.1) (some_is (types.Decimal128, last_string end) (type, Some (contents, rest)) h) in ended (codes "\"$numberDecimal\"") end (last_string end) (omega arith) is refl same
+    -- the object of the wrapper of one name, or what is known of another
+    either : (t : ValueType) (name : List ℕ) (other : Option Wrapper) (q : Option (List ℕ)) → 1 ≤ length name → after_word name inside ≡ q
+        → (other ≡ Some (type, Some (contents, rest)) → (object : List ℕ) × (2 ≤ length object) × (c ∷ inside ≡ object ++ rest))
+        → option_map_or {U = Option Wrapper} (λ end. Some (t, last_string end)) q other ≡ Some (type, Some (contents, rest)) → (object : List ℕ) × (2 ≤ length object) × (c ∷ inside ≡ object ++ rest)
+    either t name other None long is more h = more h
+    either t name other (Some end) long is more h =
+        let same : last_string end ≡ Some (contents, rest) = ap (λ (w : Wrapper). w.1) (some_is (t, last_string end) (type, Some (contents, rest)) h) in
+        ended name end (last_string end) long is refl same
 
-    double_of : List ℕ → Option Wrapper
-    double_of end = Some (types.Double, last_string end)
+    uuid : Option Wrapper
+    uuid = named types.Uuid (codes "\"$uuid\"") inside None
 
-    double : (q : Option (List ℕ)) → after_word (codes "\"$numberDouble\"") inside ≡ q
-        → option_map_or (λ (end : List ℕ). double_of end) q (option_map {U = Wrapper} (λ end. (types.Decimal128, last_string end)) (after_word (codes "\"$numberDecimal\"") inside)) ≡ Some (type, Some (contents, rest))
-        → (object : List ℕ) × (2 ≤ length object) × (c ∷ inside ≡ object ++ rest)
-    double None is h = decimal (after_word (codes "\"$numberDecimal\"") inside) refl h
-    double (Some end) is h = let same : last_string end ≡ Some (contents, rest) = ap (λ (w : Wrapper). w.1) (some_is (types.Double, last_string end) (type, Some (contents, rest)) h) in ended (codes "\"$numberDouble\"") end (last_string end) (omega arith) is refl same
+    date : Option Wrapper
+    date = named types.Date (codes "\"$date\"") inside uuid
+
+    decimal : Option Wrapper
+    decimal = named types.Decimal128 (codes "\"$numberDecimal\"") inside date
 
     opened : wrapper_inside inside ≡ Some (type, Some (contents, rest)) → (object : List ℕ) × (2 ≤ length object) × (c ∷ inside ≡ object ++ rest)
-    opened h = double (after_word (codes "\"$numberDouble\"") inside) refl h
+    opened h = either types.Double (codes "\"$numberDouble\"") decimal (after_word (codes "\"$numberDouble\"") inside) (omega arith) refl
+        (either types.Decimal128 (codes "\"$numberDecimal\"") date (after_word (codes "\"$numberDecimal\"") inside) (omega arith) refl
+        (either types.Date (codes "\"$date\"") uuid (after_word (codes "\"$date\"") inside) (omega arith) refl
+        (either types.Uuid (codes "\"$uuid\"") None (after_word (codes "\"$uuid\"") inside) (omega arith) refl (λ e. absurd cc)))) h
 
 -- ---- what contents mean
 
-never_both : (n : Number) (f : TextFault) (r : Result Number TextFault) → Ok n ≡ r → r ≡ Err f → ⊥
+never_both : (n : WideValue) (f : TextFault) (r : Result WideValue TextFault) → Ok n ≡ r → r ≡ Err f → ⊥
 never_both n f r e h = let both : Ok n ≡ Err f = e ∙ h in cc
 
-pub never_begins : (bytes contents rest : List ℕ) (type : NumberType) (f : TextFault) → wrapper_at bytes ≡ Some (type, Some (contents, rest)) → IsMeant type contents (Err f)
-    → (n : Number) (more : List ℕ) → BeginsNumber bytes n more → ⊥
+pub never_begins : (bytes contents rest : List ℕ) (type : ValueType) (f : TextFault) → wrapper_at bytes ≡ Some (type, Some (contents, rest)) → IsMeant type contents (Err f)
+    → (n : WideValue) (more : List ℕ) → BeginsValue bytes n more → ⊥
 never_begins bytes contents rest type f e k n more h =
     let same : (h.0, Some (h.1, more)) ≡ (type, Some (contents, rest)) = some_is (h.0, Some (h.1, more)) (type, Some (contents, rest)) (sym h.2 ∙ e) in
     let one : h.0 ≡ type = ap (λ (w : Wrapper). w.0) same in
     let string : Some (h.1, more) ≡ Some (contents, rest) = ap (λ (w : Wrapper). w.1) same in
     let two : h.1 ≡ contents = ap (λ (p : List ℕ × List ℕ). p.0) (some_is (h.1, more) (contents, rest) string) in
-    let meant : IsMeant type contents (Ok n) = subst (λ (t : NumberType). IsMeant t contents (Ok n)) one (subst (λ (x : List ℕ). IsMeant h.0 x (Ok n)) two h.3) in
+    let meant : IsMeant type contents (Ok n) = subst (λ (t : ValueType). IsMeant t contents (Ok n)) one (subst (λ (x : List ℕ). IsMeant h.0 x (Ok n)) two h.3) in
     never_both n f (Err f) (meant_once type contents (Ok n) (Err f) meant k) refl

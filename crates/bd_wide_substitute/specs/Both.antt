@@ -1,4 +1,4 @@
--- The two documents of a text with doubles and decimal128, one with whole numbers and one with empty texts for them, or its fault.
+-- The two documents of a text, one with whole numbers for its doubles and decimal128 and one with empty texts, or its fault.
 use Rattle.std.specs.Prelude.{◌≡◌, ◌||◌, ◌&&◌, ◌==◌, not, nat_lt, ℕ, List, [], drop, Bool, true, false, if◌then◌else◌, Result, Ok, Err}
 use Rattle.std.specs.Option.{ok_or}
 use Rattle.bd_value.specs.Tree.{Doc}
@@ -8,7 +8,7 @@ use Rattle.bd_extjson_fault.specs.declared.json_fault.JsonFault.{JsonFault}
 use Rattle.bd_extjson_fault.specs.declared.json_fault.JsonFaultKind.{JsonFaultKind}
 use Rattle.bd_extjson_fault.specs.declared.json_fault.JsonFaultKind.TheVariants as kinds
 use Rattle.bd_wide_number.specs.declared.number.Number.{Number}
-use Rattle.bd_wide_substitute.specs.Substitutes.{ArePieces, Piece, all_numbers, text, whole, with_fillers}
+use Rattle.bd_wide_substitute.specs.Substitutes.{ArePieces, Piece, all_numbers, all_values, origin, text, whole, with_fillers}
 use Rattle.bd_wide_substitute.specs.Reported.{IsReported}
 
 -- whether a fault has no byte, since the text as a whole is no document
@@ -42,9 +42,9 @@ both (Err f) (Err g) = Err (earlier f g)
 abbrev pub both_documents : List Piece → Result (Doc × Doc) JsonFault
 both_documents pieces = both (document_of (with_fillers whole pieces)) (document_of (with_fillers text pieces))
 
--- The text has no doubles and no decimal128.
-abbrev pub HasNoNumbers : List ℕ → Type 0
-HasNoNumbers source = (pieces : List Piece) × ArePieces source pieces × (all_numbers pieces ≡ [])
+-- The text has no doubles and no decimal128, and no dates and UUIDs as texts.
+abbrev pub HasNoValues : List ℕ → Type 0
+HasNoValues source = (pieces : List Piece) × ArePieces source pieces × (all_values pieces ≡ [])
 
 -- The text in pieces, and the two documents that it is with other values for its numbers.
 pub record IsRead (source : List ℕ) (wholes texts : Doc) (numbers : List Number) : Type 0 where
@@ -53,11 +53,11 @@ pub record IsRead (source : List ℕ) (wholes texts : Doc) (numbers : List Numbe
   pub documents : both_documents pieces ≡ Ok (wholes, texts)
   pub all : numbers ≡ all_numbers pieces
 
--- With other values for its numbers the text is not a document both times, and this is reported.
+-- With other values for its numbers the text is not a document both times, and this is reported, at the byte of the text.
 pub record IsUnread (source : List ℕ) (fault : JsonFault) : Type 0 where
   pub pieces : List Piece
   pub are : ArePieces source pieces
   pub first : JsonFault
   pub documents : both_documents pieces ≡ Err first
-  pub at : fault.at ≡ first.at
-  pub kind : IsReported (drop first.at source) first.kind fault.kind
+  pub at : fault.at ≡ origin pieces first.at
+  pub kind : IsReported (drop fault.at source) first.kind fault.kind

@@ -6,17 +6,17 @@ ghost use Rattle.bd_extjson.specs.Read.{ReadsAs, reading};
 ghost use Rattle.bd_extjson_fault.specs.TextFault.{text_fault};
 ghost use Rattle.bd_extjson_fault.specs.declared.json_fault.JsonFault.{JsonFault};
 ghost use Rattle.bd_wide_number.specs.declared.number.Number.{Number};
-ghost use Rattle.bd_wide_substitute.specs.Both.{HasNoNumbers, IsRead, IsUnread};
+ghost use Rattle.bd_wide_substitute.specs.Both.{HasNoValues, IsRead, IsUnread};
 ghost use Rattle.bd_wide_substitute.specs.Reported.{IsReported};
 
 /// A text without doubles and decimal128 has none in any pieces. Both its documents are the one that it is for the reader of
 /// nineteen types, and it has a fault exactly if it has one there, at the same byte.
-pub fn texts_without_numbers_stay()
+pub fn texts_without_values_stay()
     ensures read { (source : List ℕ) (wholes texts : Doc) (numbers : List Number) →
-        HasNoNumbers source → IsRead source wholes texts numbers →
+        HasNoValues source → IsRead source wholes texts numbers →
         (numbers ≡ []) × ReadsAs source wholes × ReadsAs source texts }
     ensures unread { (source : List ℕ) (fault : JsonFault) →
-        HasNoNumbers source → IsUnread source fault →
+        HasNoValues source → IsUnread source fault →
         (reading source ≡ None) × (fault.at ≡ (text_fault source).at)
         × IsReported (drop (text_fault source).at source) (text_fault source).kind fault.kind }
 {}

@@ -10,7 +10,7 @@ use Rattle.bd_extjson_fault.specs.declared.json_fault.JsonFaultKind.TheVariants 
 use Rattle.bd_wide_number.specs.declared.number.Number.{Number}
 use Rattle.bd_wide_pack.specs.Filled.{AreFilled}
 use Rattle.bd_wide_substitute.specs.Both.{both_documents, document_of, earlier}
-use Rattle.bd_wide_substitute.specs.Substitutes.{ArePieces, Piece}
+use Rattle.bd_wide_substitute.specs.Substitutes.{ArePieces, Piece, origin}
 use Rattle.bd_wide_substitute.specs.Made.{IsMade}
 use Rattle.bd_wide_substitute.specs.Reported.{IsReported}
 use Rattle.bd_wide_substitute.specs.declared.scan.Substituted.{Substituted}
@@ -54,6 +54,7 @@ pub record HasTexts (line : List ℕ) (made : Substituted) : Type 0 where
 
 -- This fault of a text is reported as that one of the line.
 abbrev pub IsReportedAs : List ℕ → LineFault → LineFault → Type 0
-IsReportedAs line (faults.Unread f) (faults.Unread g) = (g.at ≡ f.at) × IsReported (drop f.at line) f.kind g.kind
+IsReportedAs line (faults.Unread f) (faults.Unread g) =
+    ((pieces : List Piece) → ArePieces line pieces → g.at ≡ origin pieces f.at) × IsReported (drop g.at line) f.kind g.kind
 IsReportedAs line (faults.Unread f) faults.TooLong = ⊥
 IsReportedAs line faults.TooLong g = g ≡ faults.TooLong

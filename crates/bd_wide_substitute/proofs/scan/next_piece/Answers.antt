@@ -8,7 +8,7 @@ run_piece-requires c = run_begins c.args.bytes.now c.requires.0 c.args.first c.r
 pub returns-in-Some : goal.returns-in-Some
 returns-in-Some c =
     let bytes = c.args.bytes.now in
-    wrapped_found bytes c.in-Some.rest.now c.in-Some.number (length bytes - length c.in-Some.rest.now) c.in-Some.ensures.rest refl c.in-Some.ensures.some
+    wrapped_found bytes c.in-Some.rest.now c.in-Some.value (length bytes - length c.in-Some.rest.now) c.in-Some.ensures.rest refl c.in-Some.ensures.some
 
 pub returns-in-None : goal.returns-in-None
 returns-in-None c =

@@ -1,5 +1,5 @@
 use Rattle.bd_wide_substitute.proofs.BothLemmas.{read_alike, unread_alike}
-use Rattle.bd_wide_substitute.proofs.laws.texts_without_numbers_stay.Goals as goal
+use Rattle.bd_wide_substitute.proofs.laws.texts_without_values_stay.Goals as goal
 
 pub returns-clause-read : goal.returns-clause-read
 returns-clause-read c = read_alike
