@@ -50,6 +50,8 @@ if cp crates/bsonfind/out/bsonfind bsonfind && cp crates/bsonwide/out/bsonwide b
 	add
 	tests/wide/others.py --count 10000 | tee "$log"
 	add
+	tests/wide/forms.py bsonwide | tee "$log"
+	add
 else
 	echo 'the gate did not build both programs: their tests were not run'
 	failed=$((failed + 1))

@@ -1,0 +1,110 @@
+#!/usr/bin/env python3
+"""Packs lines with dates and UUIDs as people write them by `bsonwide`, beside the model and Python's `datetime` and `uuid`.
+
+usage: tests/wide/forms.py [PROGRAM] [LINES]     The last line is 'N passed, M failed'.
+"""
+
+import random
+import subprocess
+import sys
+from datetime import datetime, timedelta, timezone
+from pathlib import Path
+from uuid import UUID
+
+sys.path.insert(0, str(Path(__file__).resolve().parents[1]))
+
+from model.answers import encoded
+from model.texts import NOT_A_DOCUMENT, TEXT_WORDS, TextFault, date_in, read_document
+from support import ROOT, Tests
+
+PROGRAM = Path(sys.argv[1]).resolve() if len(sys.argv) > 1 else ROOT / "bsonwide"
+LINES = int(sys.argv[2]) if len(sys.argv) > 2 else 2_000
+RNG = random.Random(57)
+EPOCH = datetime(1970, 1, 1, tzinfo=timezone.utc)
+
+
+def a_date() -> str:
+    """A date-time of RFC 3339 of any year, in any zone, or one that is none: a part is out of range, or has too many digits."""
+    year = RNG.choice([RNG.randrange(10_000), RNG.randrange(1960, 2040)])
+    day = f"{year:04}-{RNG.randrange(1, 13):02}-{RNG.choice([1, 28, 29, 30, 31, RNG.randrange(1, 29)]):02}"
+    time = f"{RNG.choice([0, 12, 23]):02}:{RNG.randrange(60):02}:{RNG.randrange(60):02}"
+    fraction = RNG.choice(["", f".{RNG.randrange(10)}", f".{RNG.randrange(100):02}", f".{RNG.randrange(1000):03}", f".{RNG.randrange(1000):03}000"])
+    zone = RNG.choice(["Z", "Z", f"+{RNG.randrange(24):02}:{RNG.randrange(60):02}", f"-{RNG.randrange(24):02}{RNG.randrange(60):02}"])
+    return f"{day}T{time}{fraction}{zone}"
+
+
+def a_uuid() -> str:
+    text = str(UUID(int=RNG.randrange(1 << 128)))
+    return RNG.choice([text, text.upper()])
+
+
+def blank() -> str:
+    return RNG.choice(["", "", "", " ", "\t "])
+
+
+def wrapper(name: str, text: str) -> str:
+    return f'{{{blank()}"{name}"{blank()}:{blank()}"{text}"{blank()}}}'
+
+
+def a_value(levels: int) -> str:
+    chosen = RNG.randrange(8)
+    if chosen <= 2:
+        return wrapper("$date", a_date())
+    if chosen == 3:
+        return wrapper("$uuid", a_uuid())
+    if chosen == 4:
+        return RNG.choice(["1.5", "7", "-3e5", '{"$numberDecimal":"1.50"}', '{"$date":{"$numberLong":"-5"}}'])
+    if chosen == 5 and levels:
+        return f"[{','.join(a_value(levels - 1) for _ in range(RNG.randrange(4)))}]"
+    if chosen == 6 and levels:
+        return f'{{"x":{a_value(levels - 1)}}}'
+    return '"2026-10-01T00:00:00Z"'
+
+
+def a_line() -> str:
+    return f'{{"a":{a_value(2)},"b":{a_value(2)},"c":{a_value(2)}}}'
+
+
+def damaged(line: str) -> str:
+    """The line with a byte changed, dropped or put in."""
+    at = RNG.randrange(len(line))
+    return line[:at] + RNG.choice(["", RNG.choice('"{}[]:,0-9Tx. $')]) + line[at + RNG.randrange(2) :]
+
+
+def packed(line: str) -> tuple[bytes, bytes]:
+    """What `pack` writes and says of a line, by the model."""
+    try:
+        return encoded(read_document(line.encode(), is_wide=True)), b"1 objects packed\n"
+    except TextFault as fault:
+        at = "" if fault.number == NOT_A_DOCUMENT else f", byte {fault.at}"
+        return b"", f"bsonwide: line 1{at}: {TEXT_WORDS[fault.number - 1]}\n0 objects packed\n".encode()
+
+
+def pack(text: str) -> tuple[bytes, bytes]:
+    made = subprocess.run([PROGRAM, "pack", "-"], input=text.encode(), capture_output=True, check=False)
+    return made.stdout, made.stderr
+
+
+def main() -> int:
+    tests = Tests()
+    # The model beside Python's reader of ISO 8601, which has no year 0.
+    for _ in range(LINES):
+        text = a_date()
+        try:
+            wanted = None if text.startswith("0000") else (datetime.fromisoformat(text) - EPOCH) // timedelta(milliseconds=1)
+        except (ValueError, OverflowError):
+            wanted = None
+        if not text.startswith("0000") and wanted is not None:
+            tests.want(f"model of {text}", date_in(text) == wanted, (date_in(text), wanted))
+    lines = [a_line() for _ in range(LINES)]
+    good = [it for it in lines if packed(it)[0]]
+    wanted = b"".join(packed(it)[0] for it in good)
+    tests.want("lines", pack("".join(f"{it}\n" for it in good))[0] == wanted)
+    for line in [*[it for it in lines if not packed(it)[0]][:200], *(damaged(it) for it in lines[: LINES // 4])]:
+        tests.want(line, pack(f"{line}\n") == packed(line), (pack(f"{line}\n"), packed(line)))
+    print(f"{tests.passed} passed, {tests.failed} failed")
+    return int(tests.failed > 0)
+
+
+if __name__ == "__main__":
+    sys.exit(main())
