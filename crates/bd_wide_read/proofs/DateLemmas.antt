@@ -19,7 +19,6 @@ record Digits (bytes rest : List ℕ) : Type 0 where
   pub is : bytes ≡ digits ++ rest
   pub all : AllPass is_ascii_digit digits
 
-
 more_pass : (c : ℕ) (cs : List ℕ) → is_ascii_digit c ≡ true → AllPass is_ascii_digit cs → AllPass is_ascii_digit (c ∷ cs)
 more_pass c cs is all zero d h = is
 more_pass c cs is all (suc k) d h = all k d (omega arith)
@@ -39,8 +38,8 @@ at_least_one (c ∷ cs) rest h =
     let more = skipped cs in
     elim (is_ascii_digit c) as (λ b. is_ascii_digit c ≡ b → Digits (c ∷ cs) rest) [
       | true ↦ λ e.
-        let same : skip_digits cs ≡ rest = (let found : Some (skip_digits cs) ≡ Some rest = (rw e at h) in cc) in
-        record { digits = c ∷ more.digits; is = ap (λ t. c ∷ t) more.is ∙ ap (λ t. c ∷ (more.digits ++ t)) same; all = more_pass c more.digits e more.all }
+          let same : skip_digits cs ≡ rest = (let found : Some (skip_digits cs) ≡ Some rest = (rw e at h) in cc) in
+          record { digits = c ∷ more.digits; is = ap (λ t. c ∷ t) more.is ∙ ap (λ t. c ∷ (more.digits ++ t)) same; all = more_pass c more.digits e more.all }
       | false ↦ λ e. absurd (let found : None ≡ Some rest = (rw e at h) in cc)
     ] refl
 

@@ -62,9 +62,9 @@ module _ (line : List ℕ) (at : ℕ) (rest : List ℕ) (left n : ℕ) (found : 
       record {
         within = omega (arith, h.within, shorter);
         reached = λ pieces are.
-          let r = pieces_on pieces are in
-          let e = origin_past f.piece r.0 left (omega (arith, size, past)) ∙ ap (λ k. length (original f.piece) + origin r.0 (left - k)) size in
-          (r.0, r.1, omega (arith, r.2, e, first_long, shorter, taken));
+            let r = pieces_on pieces are in
+            let e = origin_past f.piece r.0 left (omega (arith, size, past)) ∙ ap (λ k. length (original f.piece) + origin r.0 (left - k)) size in
+            (r.0, r.1, omega (arith, r.2, e, first_long, shorter, taken));
       }
 
   -- inside a piece
@@ -94,10 +94,10 @@ same_byte (same bytes ∷ ps) source at h are none =
     elim (nat_lt at (length bytes)) as (λ b. nat_lt at (length bytes) ≡ b → origin (same bytes ∷ ps) at ≡ at) [
       | true ↦ λ e. origin_in (same bytes) ps at (leb-true (suc at) (length bytes) e)
       | false ↦ λ e.
-        let past : length bytes ≤ at = (let k = leb-false (suc at) (length bytes) e in omega (arith, k)) in
-        let long : length source ≡ length bytes + length are.0 = ap length are.1 ∙ length-append bytes are.0 in
-        let rest = same_byte ps are.0 (at - length bytes) (omega (arith, long, h, past)) are.3 none in
-        origin_past (same bytes) ps at past ∙ omega (arith, rest, past)
+          let past : length bytes ≤ at = (let k = leb-false (suc at) (length bytes) e in omega (arith, k)) in
+          let long : length source ≡ length bytes + length are.0 = ap length are.1 ∙ length-append bytes are.0 in
+          let rest = same_byte ps are.0 (at - length bytes) (omega (arith, long, h, past)) are.3 none in
+          origin_past (same bytes) ps at past ∙ omega (arith, rest, past)
     ] refl
 
 -- ---- how many bytes a piece becomes
@@ -160,5 +160,13 @@ uuid_long bytes e fits =
     let symbols = base64_text bytes in
     let digits = hex_text (4 ∷ []) in
     let two : length digits ≡ 2 = subtype_long in
-    omega (arith, ap length (written-binary [] bytes 4 fits subtype_small), length-append (((a ++ symbols) ++ b) ++ digits) (codes "\"}}"), length-append ((a ++ symbols) ++ b) digits, length-append (a ++ symbols) b,
-    length-append a symbols, base64_long bytes e, two)
+    omega (
+      arith,
+      ap length (written-binary [] bytes 4 fits subtype_small),
+      length-append (((a ++ symbols) ++ b) ++ digits) (codes "\"}}"),
+      length-append ((a ++ symbols) ++ b) digits,
+      length-append (a ++ symbols) b,
+      length-append a symbols,
+      base64_long bytes e,
+      two,
+    )

@@ -29,11 +29,11 @@ loop-rest-preserved c =
     subst (λ t. IsReached line c.args.at t c.match-canonical_count.left) (sym c.split_at.ensures.back)
     (elim c.match-canonical_count.branch [
       | in-Some-2 w ↦
-        let k = subst (λ (m : Option ℕ). IsCount m n f.piece) w.in-Some.is all in
-        subst (λ (m : ℕ). IsReached line c.args.at (drop n rest) m) (sym w.left-is) (go w.in-Some.count k.0 (omega (arith, w.if-left-count.false)))
+          let k = subst (λ (m : Option ℕ). IsCount m n f.piece) w.in-Some.is all in
+          subst (λ (m : ℕ). IsReached line c.args.at (drop n rest) m) (sym w.left-is) (go w.in-Some.count k.0 (omega (arith, w.if-left-count.false)))
       | in-None-2 w ↦
-        let k = subst (λ (m : Option ℕ). IsCount m n f.piece) w.in-None.is all in
-        subst (λ (m : ℕ). IsReached line c.args.at (drop n rest) m) (sym w.left-is) (go n k.0 (omega (arith, w.if-left-found.false)))
+          let k = subst (λ (m : Option ℕ). IsCount m n f.piece) w.in-None.is all in
+          subst (λ (m : ℕ). IsReached line c.args.at (drop n rest) m) (sym w.left-is) (go n k.0 (omega (arith, w.if-left-found.false)))
     ])
 
 pub returns : goal.returns
