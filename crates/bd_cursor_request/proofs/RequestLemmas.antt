@@ -1,12 +1,17 @@
 -- A sort with its directions as int32 numbers, pair by pair.
 use Rattle.std.proofs.Common.{◌≡◌, ℕ, List, [], ◌∷◌, ◌++◌, sym, ap, ap₂, ◌∙◌, append_assoc, ◌≤◌, ◌&&◌, Bool, true, false, cond, Option, Some, None, Result, Ok, Err, length, refl, inl}
-use Rattle.std.proofs.Common.{inr}
+use Rattle.std.proofs.Common.{inr, ◌<◌, true≢false}
 use Rattle.bd_value.specs.Tree as trees
 use Rattle.bd_value.specs.Tree.{Doc, Tree, leaf, doc, fields_of, pairs_of-fields_of, AreParts}
-use Rattle.bd_cursor_request.specs.Request.{direction_number, sort_written, direction_of, are_distinct, pair_names, sort_of, sort_pairs, sort_with}
+use Rattle.bd_value.specs.Limits.{greatest_count}
+use Rattle.bd_query_filter.specs.{Filter.Filter, FilterOf.filter_of}
+use Rattle.bd_cursor_request.specs.Refused.{Reason, plain, then_part}
+use Rattle.bd_cursor_request.specs.inside.Request.{rest_part}
+use Rattle.bd_cursor_request.specs.Request.{direction_number, request_of, request_with, sort_written, direction_of, are_distinct, pair_names, sort_of, sort_pairs, sort_with}
+use Rattle.bd_cursor_request.specs.declared.results.Refused.TheVariants.{BadSort, NoMemory, Range}
 use Rattle.bd_cursor_request.specs.{inside.Refused.IsRefusedAs, declared.results.Refused.Refused}
-use Rattle.std.specs.{Prelude.nat_le, Prelude.is_some, Result.is_ok}
-use Rattle.std.proofs.lemmas.Bool.{le-leb}
+use Rattle.std.specs.{Prelude.nat_le, Prelude.is_some, Prelude.if◌then◌else◌, Option.ok_or, Result.is_ok}
+use Rattle.std.proofs.lemmas.Bool.{le-leb, lt-leb}
 use Rattle.bd_path.specs.{Sort.SortPath, Reach.Names, declared.sort.Dir.Dir, declared.path.PathFault.PathFault}
 
 abbrev with_pair : Doc → List ℕ → Tree → Doc
@@ -48,21 +53,58 @@ is_sort_with (Ok path) (Some dir) None = refl
 is_sort_with (Ok path) None others = refl
 is_sort_with (Err fault) dir others = refl
 
-pub no_sort : (d : Doc) → length d ≤ 4 → are_distinct (pair_names d) ≡ true → is_some (sort_pairs d) ≡ false → sort_of d ≡ None
-no_sort d le is none = few_and_distinct d le is ∙ nothing (sort_pairs d) none
+-- a sort is the paths in its pairs
+pub sort_there : (d : Doc) → is_some (sort_of d) ≡ true → sort_of d ≡ sort_pairs d
+sort_there d some = go (nat_le (length d) 4 && are_distinct (pair_names d)) some
   where
-    nothing : (o : Option (List SortPath)) → is_some o ≡ false → o ≡ None
-    nothing None e = refl
-    nothing (Some ss) e = absurd cc
+    go : (b : Bool) → is_some (cond b (sort_pairs d) None) ≡ true → cond b (sort_pairs d) None ≡ sort_pairs d
+    go true e = refl
+    go false e = absurd cc
 
-pub some_sort : (d : Doc) → length d ≤ 4 → are_distinct (pair_names d) ≡ true → is_some (sort_pairs d) ≡ true → sort_of d ≡ None → {A : Type 0} → A
-some_sort d le is some none = impossible (sort_pairs d) some (sym (few_and_distinct d le is) ∙ none)
+-- and is not refused as none
+pub never_bad : (d : Doc) → is_some (sort_of d) ≡ true → (r : Refused) → IsRefusedAs r BadSort (sort_pairs d ≡ None) → r ≡ NoMemory
+never_bad d some r (inl is) = is
+never_bad d some r (inr (is, none)) = absurd (true≢false (sym some ∙ ap is_some (sort_there d some ∙ none)))
+
+-- ---- what is checked after the filter
+
+abbrev fits : ℕ → ℕ → Bool
+fits skip limit = nat_le skip greatest_count && nat_le limit greatest_count
+
+pub no_sort_part : (sort : Doc) (skip limit : ℕ) → is_some (sort_of sort) ≡ false → rest_part sort skip limit ≡ Err (plain BadSort)
+no_sort_part sort skip limit = go (sort_of sort)
   where
-    impossible : (o : Option (List SortPath)) → is_some o ≡ true → o ≡ None → {A : Type 0} → A
-    impossible None e n = absurd cc
-    impossible (Some ss) e n = absurd cc
+    go : (part : Option (List SortPath)) → is_some part ≡ false
+        → then_part (ok_or part (plain BadSort)) (λ ss. if fits skip limit then Ok ss else Err (plain Range)) ≡ Err (plain BadSort)
+    go None e = refl
+    go (Some ss) e = absurd cc
 
--- if a part is refused, so is the whole
-pub refused_alike : (refused reason : Refused) (X Y : Type 0) → (X → Y) → IsRefusedAs refused reason X → IsRefusedAs refused reason Y
-refused_alike refused reason X Y gives (inl out_of_memory) = inl out_of_memory
-refused_alike refused reason X Y gives (inr (is, x)) = inr (is, gives x)
+counts_part : (sort : Doc) (skip limit : ℕ) → is_some (sort_of sort) ≡ true → fits skip limit ≡ false → rest_part sort skip limit ≡ Err (plain Range)
+counts_part sort skip limit some many = go (sort_of sort) (fits skip limit) some many
+  where
+    go : (part : Option (List SortPath)) (b : Bool) → is_some part ≡ true → b ≡ false
+        → then_part (ok_or part (plain BadSort)) (λ ss. if b then Ok ss else Err (plain Range)) ≡ Err (plain Range)
+    go None b e f = absurd cc
+    go (Some ss) true e f = absurd cc
+    go (Some ss) false e f = refl
+
+pub skip_part : (sort : Doc) (skip limit : ℕ) → is_some (sort_of sort) ≡ true → greatest_count < skip → rest_part sort skip limit ≡ Err (plain Range)
+skip_part sort skip limit some many = counts_part sort skip limit some (rw (lt-leb skip greatest_count many) refl)
+
+pub limit_part : (sort : Doc) (skip limit : ℕ) → is_some (sort_of sort) ≡ true → greatest_count < limit → rest_part sort skip limit ≡ Err (plain Range)
+limit_part sort skip limit some many = counts_part sort skip limit some (rw (lt-leb limit greatest_count many) (and-false (nat_le skip greatest_count)))
+  where
+    and-false : (b : Bool) → (b && false) ≡ false
+    and-false true = refl
+    and-false false = refl
+
+-- after a filter that is taken, a refusal of the rest refuses the request
+pub rest_refuses : (filter sort : Doc) (skip limit : ℕ) (f : Filter) (why : Reason) → filter_of filter ≡ Ok f → rest_part sort skip limit ≡ Err why
+    → request_of filter sort skip limit ≡ Err why
+rest_refuses filter sort skip limit f why is refused = rw is (go (sort_of sort) (fits skip limit) refused)
+  where
+    go : (part : Option (List SortPath)) (b : Bool) → then_part (ok_or part (plain BadSort)) (λ ss. if b then Ok ss else Err (plain Range)) ≡ Err why
+        → then_part (ok_or part (plain BadSort)) (λ ss. if b then Ok (request_with filter sort skip limit f ss) else Err (plain Range)) ≡ Err why
+    go None b e = let same : plain BadSort ≡ why = cc in ap (λ (w : Reason). Err w) same
+    go (Some ss) true e = absurd cc
+    go (Some ss) false e = let same : plain Range ≡ why = cc in ap (λ (w : Reason). Err w) same

@@ -1,6 +1,6 @@
 //! A request to a dump: a filter, a sort and counts.
 
-ghost use Rattle.std.specs.Prelude.{◌≡◌, ◌++◌, Err, IfErr, IfOk, None, Ok, OnOk, Some, codes, decimal, is_some};
+ghost use Rattle.std.specs.Prelude.{◌≡◌, ◌++◌, ◌≤◌, true, Err, IfErr, IfOk, None, Ok, OnOk, Some, codes, decimal, is_some};
 ghost use Rattle.std.specs.List.{list_any};
 ghost use Rattle.std.specs.Str.{bytes_eq};
 ghost use Rattle.bd_value.specs.Tree.{int32, leaf};
@@ -8,11 +8,13 @@ ghost use Rattle.bd_value.specs.View.{pairs, tree_of};
 ghost use Rattle.bd_path.specs.Sort.{sort_paths};
 ghost use Rattle.bd_query_filter.specs.Filter.{filter_tree};
 ghost use Rattle.bd_query_filter.specs.FilterOf.{filter_of};
-ghost use Rattle.bd_cursor_request.specs.Refused.{IsRefusedPart, bad_filter, error_as};
+ghost use Rattle.bd_value.specs.Limits.{greatest_count};
+ghost use Rattle.bd_cursor_request.specs.Refused.{IsRefusedPart, bad_filter, error_as, reason_of};
+ghost use Rattle.bd_cursor_request.specs.inside.Request.{rest_part};
 ghost use Rattle.bd_cursor_request.specs.inside.Refused.{IsRefusedAs};
 ghost use Rattle.bd_cursor_request.specs.Request.{are_distinct, direction_number, direction_of, pair_names, request_of, request_text, request_view};
 ghost use Rattle.bd_cursor_request.specs.Request.{sort_of, sort_pairs, sort_written};
-ghost use Rattle.bd_cursor_request.specs.declared.results.Refused.TheVariants.{BadSort};
+ghost use Rattle.bd_cursor_request.specs.declared.results.Refused.TheVariants.{BadSort, NoMemory};
 
 use crate::results::Refused;
 use bd_extjson_text::{write_doc, write_number};
@@ -56,10 +58,8 @@ impl Request {
             (IsRefusedPart (request_of (pairs filter) (pairs sort) skip limit)) }
     {
         let parsed = read_filter(alloc, &filter)?;
+        check_rest(&sort, skip, limit)?;
         let pairs = read_sort(alloc, &sort)?;
-        if skip > GREATEST_COUNT || limit > GREATEST_COUNT {
-            return Err(Refused::Range);
-        }
         let text = text_of(alloc, &filter, &sort, skip, limit)?;
         Ok(Request {
             filter: parsed,
@@ -147,25 +147,44 @@ fn written_direction<N: Reading>(value: N) -> Value
 /// The most paths of a sort.
 const MOST: usize = 4;
 
-/// The sort that a document describes. It fails with `BadSort` if it is not a sort, and with `NoMemory`.
-fn read_sort(alloc: Global, document: &Document) -> Result<Vec<(Path, Dir)>, Refused>
-    ensures sort { IfOk result (λ v. sort_of (pairs document.now) ≡ Some (sort_paths v.items)) }
-    ensures fault { IfErr result (λ r.
-        IsRefusedAs r BadSort (sort_of (pairs document.now) ≡ None)) }
-    // A document that is no sort is refused as such, since it takes no memory.
-    ensures refused { sort_of (pairs document.now) ≡ None → result ≡ Err BadSort }
+/// Refuses a document that is no sort, and counts that are too great. It takes no memory.
+#[tactic(auto, using(crate::proofs::RequestLemmas::no_sort_part, crate::proofs::RequestLemmas::skip_part, crate::proofs::RequestLemmas::limit_part))]
+fn check_rest(sort: &Document, skip: u64, limit: u64) -> Result<(), Refused>
+    ensures sort { OnOk result (is_some (sort_of (pairs sort.now)) ≡ true) }
+    ensures counts { OnOk result ((skip ≤ greatest_count) × (limit ≤ greatest_count)) }
+    ensures refused { IfErr result (λ r.
+        rest_part (pairs sort.now) skip limit ≡ Err (reason_of r)) }
+{
+    if !is_sort(sort) {
+        return Err(Refused::BadSort);
+    }
+    if skip > GREATEST_COUNT || limit > GREATEST_COUNT {
+        return Err(Refused::Range);
+    }
+    Ok(())
+}
+
+/// Whether a document is a sort. It takes no memory.
+fn is_sort(document: &Document) -> bool
+    ensures { result ≡ is_some (sort_of (pairs document.now)) }
 {
     if document.len() > MOST {
-        return Err(Refused::BadSort);
+        return false;
     }
     let pairs = Tree::Doc(document).parts();
     if !are_distinct::<Tree<'_>>(pairs) {
-        return Err(Refused::BadSort);
+        return false;
     }
-    if !are_sort_pairs::<Tree<'_>>(pairs) {
-        return Err(Refused::BadSort);
-    }
-    read_pairs::<Tree<'_>>(alloc, pairs)
+    are_sort_pairs::<Tree<'_>>(pairs)
+}
+
+/// The sort that a document describes. It fails only if memory runs out.
+fn read_sort(alloc: Global, document: &Document) -> Result<Vec<(Path, Dir)>, Refused>
+    requires { is_some (sort_of (pairs document.now)) ≡ true }
+    ensures sort { IfOk result (λ v. sort_of (pairs document.now) ≡ Some (sort_paths v.items)) }
+    ensures fault { IfErr result (λ r. r ≡ NoMemory) }
+{
+    read_pairs::<Tree<'_>>(alloc, Tree::Doc(document).parts())
 }
 
 /// Whether no name occurs twice.

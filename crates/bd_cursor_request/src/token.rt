@@ -1,6 +1,7 @@
 //! The position where the answer of a request resumes, and its digests (SHA-256, FIPS 180-4) of a dump and a request.
 
-ghost use Rattle.std.specs.Prelude.{◌≡◌, ◌++◌, IfErr, IfOk, List, None, Ok, Some, length, string_bytes, ℕ};
+ghost use Rattle.std.specs.Prelude.{◌≡◌, ◌++◌, ◌+◌, ◌≤◌, IfErr, IfOk, List, None, Ok, Some, length, string_bytes, ℕ};
+ghost use Rattle.arrayvec.specs.ArrayVec.{array_vec_len};
 ghost use Rattle.base64.specs.Engines.{standard};
 ghost use Rattle.base64.specs.GeneralPurpose.{decode_of, encode_of};
 ghost use Rattle.sha2.specs.Sha256.{sha256};
@@ -9,6 +10,7 @@ ghost use Rattle.bd_cursor_request.specs.declared.results.Refused.TheVariants.{B
 
 use crate::request::Request;
 use crate::results::Refused;
+use arrayvec::ArrayVec;
 use base64::engine::general_purpose::STANDARD;
 use bd_value::NoMemory;
 use sha2::{Digest, Sha256};
@@ -40,9 +42,21 @@ impl Token {
         ensures size { IfOk result (λ t. length (string_bytes t) ≡ 60) }
         ensures read_back { IfOk result (λ t. token_of (string_bytes t) ≡ Some self.now) }
     {
-        let bytes = bytes_of(alloc, self.given, self.last, &self.digest)?;
+        let bytes = bytes_of(self.given, self.last, &self.digest);
         let text = encoded(alloc, &bytes)?;
         Ok(text)
+    }
+
+    /// The characters of its text. It takes no memory.
+    pub fn characters(&self) -> [u8; CHARACTERS]
+        ensures { result ≡ token_text self.now }
+    {
+        let bytes = bytes_of(self.given, self.last, &self.digest);
+        let mut text = [0; CHARACTERS];
+        match STANDARD.encode_slice(&bytes, &mut text) {
+            Ok(_) => text,
+            Err(_) => unreachable!(),
+        }
     }
 
     /// The token in a text. It takes no memory.
@@ -61,16 +75,28 @@ impl Token {
     }
 }
 
-fn bytes_of(alloc: Global, given: u64, last: u32, digest: &[u8; 32]) -> Result<Vec<u8>, NoMemory>
-    ensures { IfOk result (λ v.
-        v.items ≡ token_bytes (record { given = given; last = last; digest = digest.now })) }
+/// The bytes of a token.
+fn bytes_of(given: u64, last: u32, digest: &[u8; 32]) -> ArrayVec<u8, BYTES>
+    ensures { result.items
+        ≡ token_bytes (record { given = given; last = last; digest = digest.now }) }
 {
-    let mut bytes = Vec::new(alloc);
-    bytes.push(VERSION)?;
-    bytes.extend_from_slice(&given.to_le_bytes())?;
-    bytes.extend_from_slice(&last.to_le_bytes())?;
-    bytes.extend_from_slice(digest)?;
-    Ok(bytes)
+    let mut bytes = ArrayVec::new();
+    bytes.push(VERSION);
+    append(&given.to_le_bytes(), &mut bytes);
+    append(&last.to_le_bytes(), &mut bytes);
+    append(digest, &mut bytes);
+    bytes
+}
+
+/// Appends bytes that fit.
+fn append(part: &[u8], bytes: &mut ArrayVec<u8, BYTES>)
+    requires { array_vec_len bytes.old + length part.now ≤ 45 }
+    ensures items { bytes.new.items ≡ bytes.old.items ++ part.now }
+    ensures len { array_vec_len bytes.new ≡ array_vec_len bytes.old + length part.now }
+{
+    if bytes.try_extend_from_slice(part).is_err() {
+        unreachable!()
+    }
 }
 
 /// Bytes in base64.
