@@ -8,16 +8,17 @@ use Rattle.std.specs.Prelude.{MatchOption, nat_lt, option_map}
 use Rattle.std.specs.{List.All, List.range_with_len, Str.bytes_eq}
 use Rattle.bd_value.specs.{Limits.greatest_count, Tree.Doc}
 use Rattle.bd_cursor_model.specs.Answer.{Selection, Position, answer, at_most, before, limited, insert, insert_all, is_empty, matching, ordered, rest}
-use Rattle.bd_cursor_model.specs.Session.{Call, GivenBatch, OpenCursor, Query, Reply, State, batch_of, changed_by, cursor_of, find_call, foreign_token, gave, next_call, opened, reply, resume_call}
+use Rattle.bd_cursor_model.specs.Session.{Call, GivenBatch, OpenCursor, Query, Reply, State, batch_of, changed_by, cursor_of, find_call, foreign_token, gave, has_index, next_call, opened, reply, resume_call}
 use Rattle.bd_cursor_model.specs.Session.{token_after, token_place, with_open}
 use Rattle.bd_cursor_model.proofs.{AnswerLemmas.ordered_in, OrderLemmas.in_at}
 use Rattle.bd_bson_check.specs.Dump.{AreJoined}
 use Rattle.bd_bson_check.proofs.DumpLemmas.{document_frame, frame_inside}
-use Rattle.bd_cursor.specs.SessionView.{IsRefusedCall, Steps, given_batch, position_of, positioned_token, state_of}
+use Rattle.bd_cursor.specs.SessionView.{IsRefusedCall, Steps, given_batch, hint_of, path_named, position_of, positioned_token, state_of}
 use Rattle.bd_cursor.specs.declared.session.Session.{Session}
 use Rattle.bd_cursor_request.specs.{Refused.plain, Refused.reason_of, declared.results.Batch.Batch, declared.results.Refused.Refused, declared.token.Token.Token}
 use Rattle.bd_cli_find.specs.Find.{remaining_over, cursor_for, places_from}
-use Rattle.bd_cli_find.specs.inside.Find.{AwaitsFirst, IsBatchOf, IsFirstBatch, IsOpenedOn, IsReady, before_first}
+use Rattle.bd_cli_find.specs.inside.Find.{AwaitsFirst, IsBatchOf, IsFirstBatch, IsOpenedOn, IsReady, before_first, index_way}
+use Rattle.bd_cursor.specs.{Access.way_of, declared.access.Choice.Choice}
 use Rattle.bd_cli_find.specs.Options.{fits_batch}
 use Rattle.bd_cursor_request.specs.declared.results.Refused.TheVariants as reasons
 
@@ -113,20 +114,20 @@ module _ (q : Query) (hint : Option (List ℕ)) (old new : Session) (first : Awa
   -- a call that is granted opens the first cursor
   opens : (token : Option Token) (ps : List ℕ) (call : Call) → places_from q token ≡ Ok ps → reply (state_of old) call ≡ opened 1
       → ((s : State) → changed_by (opened 1) call s ≡ with_open s q.digest (option_map positioned_token token) ps)
-      → (result : Result ℕ Refused) → Steps opened call old result new → IsOpenedOn q token (state_of new) result
+      → (result : Result ℕ Refused) → Steps opened call old result new → IsOpenedOn q token hint (state_of new) result
   opens token ps call led is opening (Ok id) step =
       let one : opened 1 ≡ opened id = sym is ∙ step.replies in
       let same : 1 ≡ id = cc in
       let state : state_of new ≡ with_open (before_first first.index_keys) q.digest (option_map positioned_token token) ps =
       step.moves ∙ ap (λ r. changed_by r call (state_of old)) is ∙ opening (state_of old) ∙ ap (λ s. with_open s q.digest (option_map positioned_token token) ps) first.is_unopened in
       let there = subst (λ i. cursor_of i (with_open (before_first first.index_keys) q.digest (option_map positioned_token token) ps).cursors ≡ Some (cursor_for i q token ps)) same refl in
-      (ps, led, ap (λ (s : State). cursor_of id s.cursors) state ∙ there)
+      (ps, led, ap (λ (s : State). cursor_of id s.cursors) state ∙ there, ap (λ (s : State). has_index s.indexes hint) state ∙ first.is_there)
   opens token ps call led is opening (Err why) step = inl (only_memory 1 why (subst (λ r. IsRefusedCall r why) is step.because))
 
-  pub find_opens : (result : Result ℕ Refused) → Steps opened (find_call q hint) old result new → IsOpenedOn q None (state_of new) result
+  pub find_opens : (result : Result ℕ Refused) → Steps opened (find_call q hint) old result new → IsOpenedOn q None hint (state_of new) result
   find_opens = opens None (answer q.selection) (find_call q hint) refl (first_reply (find_call q hint) (opened 1) (rw first.is_there refl)) (λ s. refl)
 
-  pub resume_opens : (t : Token) (result : Result ℕ Refused) → Steps opened (resume_call q hint (positioned_token t)) old result new → IsOpenedOn q (Some t) (state_of new) result
+  pub resume_opens : (t : Token) (result : Result ℕ Refused) → Steps opened (resume_call q hint (positioned_token t)) old result new → IsOpenedOn q (Some t) hint (state_of new) result
   resume_opens t = go (bytes_eq t.digest q.digest) refl (nat_lt t.last q.selection.count) refl
     where
       call : Call
@@ -134,19 +135,24 @@ module _ (q : Query) (hint : Option (List ℕ)) (old new : Session) (first : Awa
 
       -- the token is refused
       turned_away : (r : Reply) (why : Refused) → ((other : Refused) → IsRefusedCall r other → other ≡ why) → ((id : ℕ) → r ≡ opened id → ⊥) → places_from q (Some t) ≡ Err (reason_of why)
-          → reply (state_of old) call ≡ r → (result : Result ℕ Refused) → Steps opened call old result new → IsOpenedOn q (Some t) (state_of new) result
+          → reply (state_of old) call ≡ r → (result : Result ℕ Refused) → Steps opened call old result new → IsOpenedOn q (Some t) hint (state_of new) result
       turned_away r why only none led is (Ok id) step = absurd (none id (sym is ∙ step.replies))
       turned_away r why only none led is (Err other) step = inr (led ∙ ap (λ w. Err (reason_of w)) (sym (only other (subst (λ x. IsRefusedCall x other) is step.because))))
 
       go : (same : Bool) → bytes_eq t.digest q.digest ≡ same → (place : Bool) → nat_lt t.last q.selection.count ≡ place
-          → (result : Result ℕ Refused) → Steps opened call old result new → IsOpenedOn q (Some t) (state_of new) result
+          → (result : Result ℕ Refused) → Steps opened call old result new → IsOpenedOn q (Some t) hint (state_of new) result
       go true e true f = opens (Some t) (rest q.selection (position_of t)) call (rw (e, f) refl) (first_reply call (opened 1) (rw (e, f, first.is_there) refl)) (λ s. refl)
       go true e false f = turned_away token_place reasons.TokenPlace only_place (λ id k. let g : ⊥ = cc in g) (rw (e, f) refl) (first_reply call token_place (rw (e, f) refl))
       go false e place f = turned_away foreign_token reasons.ForeignToken only_foreign (λ id k. let g : ⊥ = cc in g) (rw e refl) (first_reply call foreign_token (rw e refl))
 
+-- the index that a choice by a name or by none names
+pub hint_is : (index : Option (List ℕ)) (choice : Choice) → way_of choice ≡ index_way index → hint_of choice ≡ index
+hint_is None choice is = ap path_named is
+hint_is (Some path) choice is = ap path_named is
+
 -- the cursor is ready to return a batch
-pub opened_ready : (q : Query) (token : Option Token) (s : State) (id : ℕ) → q.selection.count ≤ greatest_count → IsOpenedOn q token s (Ok id) → IsReady s id q.selection.count
-opened_ready q token s id le (ps, led, there) =
+pub opened_ready : (q : Query) (token : Option Token) (index : Option (List ℕ)) (s : State) (id : ℕ) → q.selection.count ≤ greatest_count → IsOpenedOn q token index s (Ok id) → IsReady s id q.selection.count
+opened_ready q token index s id le (ps, led, there, kept) =
     let few = led_few q token ps led in
     record {
       cursor = cursor_for id q token ps;

@@ -11,19 +11,18 @@ use Rattle.bd_bson_dump.specs.{Collection.documents_at}
 use Rattle.bd_bson_check.specs.Fault.{fault_view}
 use Rattle.bd_cli_scan.specs.{declared.output.OutputFault.OutputFault, declared.output.Status.Status, declared.output.Status.TheVariants.Done, declared.output.Status.TheVariants.Failed}
 use Rattle.bd_cli_scan.specs.Output.{Transcript, error_line, fault_text, lines, no_memory, refusal_output, stop_words}
-use Rattle.bd_cli_scan.specs.Run.{Prints, ReportsMessage, partial_run, run_after}
+use Rattle.bd_cli_scan.specs.Run.{Prints, ReportsMessage, partial_run}
 use Rattle.bd_cli_args.specs.FindOptions.{FindOptions}
 use Rattle.bd_cursor_request.specs.{Request.Request, declared.token.Token.Token, declared.results.Refused.Refused, Refused.IsRefusedPart, Refused.Reason, Refused.reason_of, Refused.refused_words}
 use Rattle.bd_cli_find.specs.Options.{refused_text}
 use Rattle.bd_cli_find.specs.Options.{requested_by}
-use Rattle.bd_cli_find.specs.Find.{ArePieces, IsEnded, Printing, places_from, IsOutputOfFind, ReadsIfRequested, batch_output, batch_run, cursor_for, each_document, find_run, found_run, output_of_dump, output_of_text}
+use Rattle.bd_cli_find.specs.Find.{ArePieces, IsEnded, Printing, places_from, IsOutputOfFind, ReadsIfRequested, batch_output, batch_run, cursor_for, each_document, find_run, found_run, lines_run, output_of_dump, output_of_text}
 use Rattle.bd_cli_find.specs.Find.{counts_of, output_places, places_run}
 use Rattle.bd_cli_find.specs.inside.Find.{StopsAmong, WritesPieces}
 use Rattle.bd_cli_find.proofs.BatchLemmas.{led_few}
 use Rattle.bd_cursor_model.specs.{Answer.at_most, Session.OpenCursor, Session.Query}
 use Rattle.bd_cli_print.specs.Printer.{IsNamedText}
 use Rattle.bd_cli_scan.specs.declared.output.OutputFault.TheVariants.{NoMemory, Unwritten}
-use Rattle.bd_cli_scan.proofs.OutputLemmas.{after_input}
 use Rattle.bd_cursor_sort.specs.Selection.{query_to}
 use Rattle.bd_cli_scan.proofs.OutputLemmas.{lines-append}
 use Rattle.bd_io_device.specs.Devices.{Over, Reader, TakesText, WriteFailsWithin, Writer, between, read_words}
@@ -44,9 +43,15 @@ module _ (IsPiece : ℕ → List ℕ → Type 0) where
   one_piece p piece is = (piece, [], is, refl, sym (append-nil piece))
 
   module _ (ps : List ℕ) (i : ℕ) (old mid : Writer) (wrote : WritesPieces IsPiece (take i ps) (between old mid)) where
+    -- the number at this place, and the others
+    at_place : i < length ps → ps ≡ take i ps ++ get_or ps i 0 ∷ drop (i + 1) ps
+    at_place lt =
+        let others = drop (i + 1) ps in
+        sym (take-append-drop (i + 1) ps) ∙ ap (λ (x : List ℕ). x ++ others) (take_more ps i 0 lt) ∙ append_assoc (take i ps) (get_or ps i 0 ∷ []) others
+
     -- after the first pieces memory ran out
-    pub runs_out : StopsAmong IsPiece ps (between old mid) NoMemory
-    runs_out = (wrote.0, (take i ps, drop i ps, sym (take-append-drop i ps), wrote.1), wrote.2)
+    pub runs_out : i < length ps → StopsAmong IsPiece ps (between old mid) NoMemory
+    runs_out lt = (wrote.0, inr (take i ps, get_or ps i 0, drop (i + 1) ps, at_place lt, wrote.1), wrote.2)
 
     module _ (new : Writer) (piece : List ℕ) (lt : i < length ps) (is : IsPiece (get_or ps i 0) piece) where
       -- one more piece was written
@@ -61,11 +66,7 @@ module _ (IsPiece : ℕ → List ℕ → Type 0) where
       -- the next piece was not written
       pub fails_next : WriteFailsWithin (between mid new) piece → StopsAmong IsPiece ps (between old new) Unwritten
       fails_next failed =
-          let p = get_or ps i 0 in
-          let others = drop (i + 1) ps in
-          let splits : ps ≡ take i ps ++ p ∷ others = sym (take-append-drop (i + 1) ps)
-          ∙ ap (λ (x : List ℕ). x ++ others) (take_more ps i 0 lt) ∙ append_assoc (take i ps) (p ∷ []) others in
-          (wrote.0, piece, (take i ps, p, others, splits, wrote.1, is), write_fails_after old mid new wrote.0 piece wrote.2 failed)
+          (wrote.0, piece, (take i ps, get_or ps i 0, drop (i + 1) ps, at_place lt, wrote.1, is), write_fails_after old mid new wrote.0 piece wrote.2 failed)
 
   -- a piece alone was written
   pub writes_one : (n : ℕ) (piece : List ℕ) (old new : Writer) → IsPiece n piece → TakesText (between old new) piece
@@ -129,7 +130,7 @@ module _ (program : List ℕ) (out_old out_new : Writer) (err_old err_new : Writ
     -- memory ran out before a document was printed
     nothing_found : (q : Query) (token : Option Token) (places : Result (List ℕ) Reason) → ReportsMessage (between err_old err_new) (error_line program no_memory) Failed status
         → Prints program (places_run printing size q token places) (between out_old out_old) (between err_old err_new) status
-    nothing_found q token (Ok ps) reported = inr (inr ([], ([], printing.numbers (at_most size ps), refl, refl), takes_none out_old, reported))
+    nothing_found q token (Ok ps) reported = inr (inr ([], inl refl, takes_none out_old, reported))
     nothing_found q token (Err why) reported = nothing_output (refusal_output (refused_text why)) reported
 
     -- the output if no cursor was opened
@@ -148,14 +149,11 @@ module _ (program : List ℕ) (out_old out_new : Writer) (err_old err_new : Writ
     refused_output w bytes ds refused (inr led) reported = rw led (refusal_is_output (refused_text (reason_of refused)) reported)
 
     module _ (c : OpenCursor) where
-      -- the batch was printed, and the line of counts, or memory ran out for it
+      -- the batch was printed, and the line of counts
       pub batch_printed : WritesPieces printing.IsPiece (printing.numbers (at_most size c.remaining)) (between out_old out_new)
-          → ReportsMessage (between err_old err_new) (counts_of size c) Done status ⊎ ReportsMessage (between err_old err_new) (error_line program no_memory) Failed status
+          → ReportsMessage (between err_old err_new) (counts_of size c) Done status
           → Prints program (batch_run printing size c) (between out_old out_new) (between err_old err_new) status
-      batch_printed (printed, are, took) (inl reported) = inl (output_of_text size c printed, (printed, are, refl), took, reported)
-      batch_printed (printed, are, took) (inr reported) =
-          let ns = printing.numbers (at_most size c.remaining) in
-          inr (inr (printed, (ns, [], sym (append-nil ns), are), took, reported))
+      batch_printed (printed, are, took) reported = inl (output_of_text size c printed, (printed, are, refl), took, reported)
 
       -- standard output was stopped
       pub batch_stopped : (stopped : OutputFault) → StopsAmong printing.IsPiece (printing.numbers (at_most size c.remaining)) (between out_old out_new) stopped
@@ -166,14 +164,23 @@ module _ (program : List ℕ) (out_old out_new : Writer) (err_old err_new : Writ
 
 -- an output for an input that was read completely, or that is not needed
 pub output_found : {program : List ℕ} (options : FindOptions) (file : Over Reader) {out err : Over Writer} {status : Status} (bytes : List ℕ) (output : Transcript)
-    → ReadsIfRequested (requested_by options) file (Ok bytes) → IsOutputOfFind options (Ok bytes) output → Prints program (partial_run output) out err status
+    → ReadsIfRequested (requested_by options) file (Ok bytes) → IsOutputOfFind options (Ok bytes) output → Prints program (lines_run output) out err status
     → Prints program (find_run options file) out err status
-output_found {program} options file {out} {err} {status} bytes output read is prints = by_case (after_input {Reads = ReadsIfRequested (requested_by options) file} {Is = IsOutputOfFind options} bytes output read is prints)
+output_found options file bytes output read is (inl (o, same, wrote, reported)) =
+    inl (o, (Ok bytes, read, subst (λ (t : Transcript). IsOutputOfFind options (Ok bytes) t) (sym same) is), wrote, reported)
+output_found options file bytes output read is (inr (inl (text, piece, next, failed, reported))) = inr (inl (text, piece, (bytes, output, read, is, next), failed, reported))
+output_found options file bytes output read is (inr (inr (text, begun, wrote, reported))) = inr (inr (text, inl (bytes, output, read, is, begun), wrote, reported))
+
+-- a refusal prints no line
+pub refusal_lines : {program : List ℕ} {out err : Over Writer} {status : Status} (words : List ℕ) → Prints program (partial_run (refusal_output words)) out err status
+    → Prints program (lines_run (refusal_output words)) out err status
+refusal_lines words (inl whole) = inl whole
+refusal_lines words (inr (inl next)) = inr (inl next)
+refusal_lines words (inr (inr (text, (rest, splits), took, reported))) = inr (inr (text, inl (nothing text rest splits), took, reported))
   where
-    by_case : Prints program (run_after (ReadsIfRequested (requested_by options) file) (IsOutputOfFind options)) out err status → Prints program (find_run options file) out err status
-    by_case (inl whole) = inl whole
-    by_case (inr (inl next)) = inr (inl next)
-    by_case (inr (inr (text, begun, wrote, reported))) = inr (inr (text, inl begun, wrote, reported))
+    nothing : (text rest : List ℕ) → [] ≡ text ++ rest → text ≡ []
+    nothing [] rest none = refl
+    nothing (x ∷ text) rest none = absurd cc
 
 -- the input is no dump in memory, which is reported
 pub load_reported : {program : List ℕ} (options : FindOptions) (w : Request × Option Token) (file : Over Reader) (out : Writer) (err : Over Writer) (status : Status) (fault : InputFault) → requested_by options ≡ Ok w
@@ -191,18 +198,18 @@ load_reported {program} options w file out err status (faults.Faulty fault) is (
 load_reported {program} options w file out err status (faults.Unread fault) is (inr (memory, (bytes, read, fits))) (inl reported) =
     let some = found_some options bytes fits in
     let reports = subst (λ f. ReportsMessage err (error_line program (read_words f)) Failed status) memory reported in
-    inr (inr ([], inl (bytes, some.0, rw is read, some.1, (some.0.out, refl)), takes_none out, reports))
+    inr (inr ([], inl (bytes, some.0, rw is read, some.1, inl refl), takes_none out, reports))
 load_reported {program} options w file out err status (faults.Unread fault) is fails (inr (f, same, reported)) = absurd cc
 load_reported {program} options w file out err status (faults.Faulty fault) is (bytes, ds, read, scan, numbered) (inr (f, same, reported)) =
     let output = refusal_output (fault_text (length ds) (fault_view fault)) in
-    inr (inr ([], inl (bytes, output, rw is read, rw is (ds, Some (fault_view fault), scan, refl), ([], refl)), takes_none out, reported))
+    inr (inr ([], inl (bytes, output, rw is read, rw is (ds, Some (fault_view fault), scan, refl), inl refl), takes_none out, reported))
 
 -- ---- the documents of the dump itself
 
 -- a run by the texts of the dump's documents is a run of `find`
 module _ (program : List ℕ) (size : Option ℕ) (ds : List Doc) (out err : Over Writer) (status : Status) where
   batch_named : (c : OpenCursor) → All (λ p. p < length ds) (at_most size c.remaining) → Prints program (batch_run (each_document (IsNamedText ds) (10 ∷ [])) size c) out err status
-      → Prints program (partial_run (batch_output size ds c)) out err status
+      → Prints program (lines_run (batch_output size ds c)) out err status
   batch_named c inside (inl (output, (printed, are, is), took, reported)) =
       inl (output, is ∙ ap (output_of_text size c) (named_lines ds (at_most size c.remaining) printed inside are), took, reported)
   batch_named c inside (inr (inl (printed, next, (ps, p, others, splits, are, one), (prefix, rest, split, some, contents, failed), reported))) =
@@ -222,25 +229,28 @@ module _ (program : List ℕ) (size : Option ℕ) (ds : List Doc) (out err : Ove
         subst (λ (x : List ℕ). WriteFailsWithin out x) (sym whole) (write_fails_first out.before out.after (printed ++ next) (lines_of ds others) stopped),
         reported,
       ))
-  batch_named c inside (inr (inr (printed, (ps, others, splits, are), took, reported))) =
+  batch_named c inside (inr (inr (printed, inl none, took, reported))) = inr (inr (printed, inl none, took, reported))
+  batch_named c inside (inr (inr (printed, inr (ps, p, others, splits, are), took, reported))) =
       let within = subst (λ (x : List ℕ). All (λ p. p < length ds) x) splits inside in
-      let first : printed ≡ lines_of ds ps = named_lines ds ps printed (first_inside ds ps others within) are in
-      let whole : lines_of ds (at_most size c.remaining) ≡ printed ++ lines_of ds others =
-      ap (lines_of ds) splits ∙ lines_split ds ps others ∙ ap (λ (x : List ℕ). x ++ lines_of ds others) (sym first) in
-      inr (inr (printed, (lines_of ds others, whole), took, reported))
+      let first : printed ≡ lines_of ds ps = named_lines ds ps printed (first_inside ds ps (p ∷ others) within) are in
+      let there : slice_get ds p ≡ Some (get_or ds p []) = slice_get-get_or ds p [] (All-head (λ p. p < length ds) p others (second_inside ds ps (p ∷ others) within)) in
+      let next : documents_at ds (p ∷ others) ≡ get_or ds p [] ∷ documents_at ds others = (rw there refl) in
+      let whole : documents_at ds (at_most size c.remaining) ≡ documents_at ds ps ++ get_or ds p [] ∷ documents_at ds others =
+      ap (documents_at ds) splits ∙ filter_map-append (slice_get ds) ps (p ∷ others) ∙ ap (λ (es : List Doc). documents_at ds ps ++ es) next in
+      inr (inr (printed, inr (documents_at ds ps, get_or ds p [], documents_at ds others, ap lines whole, first), took, reported))
 
   limited_inside : (n : ℕ) (size : Option ℕ) (ps : List ℕ) → All (λ p. p < n) ps → All (λ p. p < n) (at_most size ps)
   limited_inside n None ps inside = inside
   limited_inside n (Some k) ps inside = All-take (λ p. p < n) k ps inside
 
   pub found_named : (w : Request × Option Token) (bytes : List ℕ) → Prints program (found_run (each_document (IsNamedText ds) (10 ∷ [])) size w bytes ds) out err status
-      → Prints program (partial_run (output_of_dump size w bytes ds)) out err status
+      → Prints program (lines_run (output_of_dump size w bytes ds)) out err status
   found_named w bytes = let q = query_to bytes ds w.0 in go q refl (places_from q w.1) refl
     where
       go : (q : Query) → q.selection.count ≡ length ds → (places : Result (List ℕ) Reason) → places_from q w.1 ≡ places
           → Prints program (places_run (each_document (IsNamedText ds) (10 ∷ [])) size q w.1 places) out err status
-          → Prints program (partial_run (output_places size ds q w.1 places)) out err status
-      go q count (Err why) led prints = prints
+          → Prints program (lines_run (output_places size ds q w.1 places)) out err status
+      go q count (Err why) led prints = refusal_lines (refused_text why) prints
       go q count (Ok ps) led prints =
           let inside = subst (λ (n : ℕ). All (λ p. p < n) ps) count (led_few q w.1 ps led).0 in
           batch_named (cursor_for 1 q w.1 ps) (limited_inside (length ds) size ps inside) prints

@@ -16,7 +16,7 @@ use Rattle.bd_bson_check.specs.{Fault.Fault, Dump.IsDumpScan}
 use Rattle.bd_cli_args.specs.FindOptions.{FindOptions}
 use Rattle.bd_cli_find.specs.Options.{refused_text, requested_by}
 use Rattle.bd_cursor_sort.specs.Selection.{query_to, selection_for}
-use Rattle.bd_cli_scan.specs.{Input.ReadsInput, Run.Run, Run.partial_run, Run.run_after}
+use Rattle.bd_cli_scan.specs.{Input.ReadsInput, Run.Run, Run.partial_run}
 use Rattle.bd_cli_scan.specs.declared.output.Status.TheVariants.{Done}
 use Rattle.bd_cli_scan.specs.Output.{Transcript, lines, fault_text, refusal_output}
 use Rattle.bd_extjson_text.specs.Text.{text}
@@ -104,13 +104,28 @@ abbrev pub ReadsIfRequested : Result (Request × Option Token) (List ℕ) → Ov
 ReadsIfRequested (Ok w) file input = ReadsInput file input
 ReadsIfRequested (Err message) file input = file.after ≡ file.before
 
+-- The text is nothing, or lines of documents that the output begins with, but not all of its lines.
+abbrev pub AreFirstLines : List ℕ → List ℕ → Type 0
+AreFirstLines out text =
+    (text ≡ []) ⊎ ((ds : List Doc) × (d : Doc) × (es : List Doc) × (out ≡ lines (ds ++ d ∷ es)) × (text ≡ lines ds))
+
+-- a run that prints this output; if memory runs out, that is before a line
+abbrev pub lines_run : Transcript → Run
+lines_run output = record {
+  IsOutput = λ o. o ≡ output;
+  IsNext = λ text piece. (text ≡ []) × (piece ≡ output.out);
+  IsBegun = AreFirstLines output.out;
+}
+
 -- A run of `find`: it reads its whole input first, unless an option is refused;
 -- or memory ran out before, and nothing was read.
 abbrev pub find_run : FindOptions → Over Reader → Run
-find_run options file = let run = run_after (ReadsIfRequested (requested_by options) file) (IsOutputOfFind options) in record {
-  IsOutput = run.IsOutput;
-  IsNext = run.IsNext;
-  IsBegun = λ text. run.IsBegun text ⊎ ((text ≡ []) × (file.after ≡ file.before));
+find_run options file = let Reads = ReadsIfRequested (requested_by options) file in record {
+  IsOutput = λ output. (input : Result (List ℕ) ReadFault) × Reads input × IsOutputOfFind options input output;
+  IsNext = λ text piece. (bytes : List ℕ) × (output : Transcript) × Reads (Ok bytes) × IsOutputOfFind options (Ok bytes) output
+      × (lines_run output).IsNext text piece;
+  IsBegun = λ text. ((bytes : List ℕ) × (output : Transcript) × Reads (Ok bytes) × IsOutputOfFind options (Ok bytes) output
+      × (lines_run output).IsBegun text) ⊎ ((text ≡ []) × (file.after ≡ file.before));
 }
 
 -- ---- by what is printed of the documents
@@ -138,10 +153,10 @@ ArePieces IsPiece [] text = text ≡ []
 ArePieces IsPiece (n ∷ ns) text =
     (piece : List ℕ) × (rest : List ℕ) × IsPiece n piece × ArePieces IsPiece ns rest × (text ≡ piece ++ rest)
 
--- These are the pieces for the first of these numbers.
+-- These are the pieces for the first of these numbers, but not for all of them; or nothing.
 abbrev pub AreFirstPieces : (ℕ → List ℕ → Type 0) → List ℕ → List ℕ → Type 0
-AreFirstPieces IsPiece ns text =
-    (printed : List ℕ) × (others : List ℕ) × (ns ≡ printed ++ others) × ArePieces IsPiece printed text
+AreFirstPieces IsPiece ns text = (text ≡ [])
+    ⊎ ((printed : List ℕ) × (n : ℕ) × (others : List ℕ) × (ns ≡ printed ++ n ∷ others) × ArePieces IsPiece printed text)
 
 -- These are the pieces for the first of these numbers, and this is the next.
 abbrev pub IsNextPiece : (ℕ → List ℕ → Type 0) → List ℕ → List ℕ → List ℕ → Type 0

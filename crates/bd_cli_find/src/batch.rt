@@ -1,9 +1,9 @@
 //! The first batch of a request, and its output.
 
-ghost use Rattle.std.specs.Prelude.{◌≡◌, ◌++◌, ◌<◌, ◌≤◌, ◌⊎◌, ℕ, IfErr, IfOk, MatchOption, OnOk, Option, length, option_map, string_bytes, true};
+ghost use Rattle.std.specs.Prelude.{◌≡◌, ◌<◌, ◌≤◌, ℕ, IfErr, IfOk, MatchOption, OnErr, OnOk, Option, length, option_map, true};
 ghost use Rattle.std.specs.List.{All};
 ghost use Rattle.bd_value.specs.Limits.{greatest_count};
-ghost use Rattle.bd_io_device.specs.Devices.{over};
+ghost use Rattle.bd_io_device.specs.Devices.{TakesText, WriteFailsWithin, over};
 ghost use Rattle.bd_path.specs.PathNames.{path_text};
 ghost use Rattle.bd_cursor_model.specs.{Session.OpenCursor, Laws.new_state};
 ghost use Rattle.bd_bson_dump.specs.{Collection.bytes_of, Collection.documents};
@@ -11,9 +11,8 @@ ghost use Rattle.bd_cursor_sort.specs.Selection.{query_of};
 ghost use Rattle.bd_cursor.specs.{Access.way_of, SessionView.dump_of, SessionView.given_batch, SessionView.hint_of, SessionView.positioned_token, SessionView.state_of};
 ghost use Rattle.bd_cursor_request.specs.Request.{request_view};
 ghost use Rattle.bd_cursor_request.specs.declared.results.Refused.TheVariants.{NoMemory as memory};
-ghost use Rattle.bd_cli_scan.specs.Output.{error_line, no_memory};
 ghost use Rattle.bd_cli_scan.specs.Run.{Prints, ReportsMessage};
-ghost use Rattle.bd_cli_scan.specs.declared.output.Status.TheVariants.{Done, Failed};
+ghost use Rattle.bd_cli_scan.specs.declared.output.Status.TheVariants.{Done};
 ghost use Rattle.bd_cli_find.specs.Options.{fits_batch};
 ghost use Rattle.bd_cli_find.specs.Find.{IsEnded, batch_run, each_document, end_words, find_count_line, found_run, their_count, token_words};
 ghost use Rattle.bd_cli_find.specs.inside.Find.{AwaitsFirst, IsBatchOf, IsFirstBatch, IsOpenedOn, StopsAmong, WritesPieces, index_way};
@@ -22,15 +21,14 @@ use crate::options::{Search, report_refused};
 use bd_bson_dump::Dump;
 use bd_cli_print::PlacePrinter;
 use bd_cli_scan::Status;
-use bd_cli_scan::output::{
-    OutputFault, push_number, report_no_memory, report_stop, status_of, write_count,
-};
+use bd_cli_scan::output::{OutputFault, report_stop, status_of, write_count};
 use bd_cursor::{Choice, Session};
 use bd_cursor_request::{Batch, Refused, Token};
 use bd_extjson_text::append_few;
-use bd_io_device::{Output, write_all};
+use bd_io_device::{DeviceFault, Output, write_all};
 use bd_path::Path;
 use bd_value::{GREATEST_COUNT, NoMemory};
+use itoa::Buffer;
 use std::alloc::Global;
 
 /// After the number of documents, if nothing remains.
@@ -98,7 +96,7 @@ pub fn print_count<O: Output, E: Output>(
 {
     let mut session = Session::new(alloc, dump);
     match first_batch(alloc, &mut session, search, size) {
-        Ok(batch) => print_number(alloc, program, &batch, out, err),
+        Ok(batch) => print_number(program, &batch, out, err),
         Err(refused) => report_refused(alloc, program, &refused, err),
     }
 }
@@ -128,8 +126,8 @@ fn first_batch(
 /// Opens the first cursor of a session: on an answer, or on what follows a token.
 fn open_first(alloc: Global, session: &mut Session, search: Search) -> Result<u64, Refused>
     requires { state_of session.now ≡ new_state }
-    ensures opened { IsOpenedOn
-        (query_of (dump_of session.old) search.request) search.token (state_of session.new) result }
+    ensures opened { IsOpenedOn (query_of (dump_of session.old) search.request) search.token
+        (option_map path_text search.index) (state_of session.new) result }
     ensures dump { dump_of session.new ≡ dump_of session.old }
 {
     let choice = choose(alloc, session, search.index)?;
@@ -174,14 +172,13 @@ fn print_batch<P: PlacePrinter, O: Output, E: Output>(
         (over O.state out.old out.new) (over E.state err.old err.new) result }
 {
     match write_documents(alloc, printer, end, dump, &batch.places, out) {
-        Ok(()) => report_batch(alloc, program, batch, err),
+        Ok(()) => report_batch(batch, err),
         Err(fault) => report_stop(program, fault, err),
     }
 }
 
 /// Prints how many documents a batch has.
 fn print_number<O: Output, E: Output>(
-    alloc: Global,
     program: &str,
     batch: &Batch,
     out: &mut O,
@@ -193,7 +190,7 @@ fn print_number<O: Output, E: Output>(
         (over O.state out.old out.new) (over E.state err.old err.new) result }
 {
     match write_count(batch.places.len() as u64, "\n", out) {
-        Ok(()) => report_batch(alloc, program, batch, err),
+        Ok(()) => report_batch(batch, err),
         Err(_) => report_stop(program, OutputFault::Unwritten, err),
     }
 }
@@ -249,31 +246,30 @@ fn piece_at<'a, P: PlacePrinter>(
     Ok(&buffer[..at])
 }
 
-/// Reports how many documents a batch has, whether nothing remains, and the token after it.
-fn report_batch<E: Output>(alloc: Global, program: &str, batch: &Batch, err: &mut E) -> Status
+/// Reports how many documents a batch has, whether nothing remains, and the token after it. It takes no memory.
+fn report_batch<E: Output>(batch: &Batch, err: &mut E) -> Status
     ensures { ReportsMessage (over E.state err.old err.new)
         (find_count_line (length batch.now.places.items) batch.now.end
-        (option_map positioned_token batch.now.token)) Done result
-        ⊎ ReportsMessage (over E.state err.old err.new)
-        (error_line program.now no_memory) Failed result }
+        (option_map positioned_token batch.now.token)) Done result }
 {
-    match count_line(alloc, batch) {
-        Ok(line) => status_of(write_all(err, line.as_bytes()), Status::Done),
-        Err(_) => report_no_memory(program, err),
-    }
+    status_of(write_counts(batch, err), Status::Done)
 }
 
-/// The line that counts the documents of a batch.
-fn count_line(alloc: Global, batch: &Batch) -> Result<String, NoMemory>
-    ensures { IfOk result (λ s. string_bytes s ≡ find_count_line (length batch.now.places.items)
-        batch.now.end (option_map positioned_token batch.now.token)) }
+/// Writes the line that counts the documents of a batch.
+#[tactic(auto, using(bd_cli_scan::proofs::OutputLemmas::taking))]
+fn write_counts<E: Output>(batch: &Batch, err: &mut E) -> Result<(), DeviceFault>
+    ensures ok { OnOk result (TakesText (over E.state err.old err.new)
+        (find_count_line (length batch.now.places.items) batch.now.end
+        (option_map positioned_token batch.now.token))) }
+    ensures err { OnErr result (WriteFailsWithin (over E.state err.old err.new)
+        (find_count_line (length batch.now.places.items) batch.now.end
+        (option_map positioned_token batch.now.token))) }
 {
-    let mut line = String::new(alloc);
-    push_number(batch.places.len() as u64, &mut line)?;
-    line.push_str(words_of_end(batch.end))?;
-    push_token(alloc, batch.token, &mut line)?;
-    line.push('\n')?;
-    Ok(line)
+    let mut buffer = Buffer::new();
+    write_all(err, buffer.format(batch.places.len() as u64).as_bytes())?;
+    write_all(err, words_of_end(batch.end).as_bytes())?;
+    write_token(batch.token, err)?;
+    write_all(err, b"\n")
 }
 
 /// The text after the number of documents.
@@ -283,15 +279,17 @@ fn words_of_end(end: bool) -> &'static str
     if end { DOCUMENTS_END } else { DOCUMENTS_MORE }
 }
 
-/// Appends a token, if there is one.
-fn push_token(alloc: Global, token: Option<Token>, line: &mut String) -> Result<(), NoMemory>
-    ensures { OnOk result (string_bytes line.new
-        ≡ string_bytes line.old ++ token_words (option_map positioned_token token)) }
+/// Writes a token, if there is one.
+#[tactic(auto, using(bd_cli_scan::proofs::OutputLemmas::taking, bd_io_device::proofs::DevicesLemmas::takes_none))]
+fn write_token<E: Output>(token: Option<Token>, err: &mut E) -> Result<(), DeviceFault>
+    ensures ok { OnOk result
+        (TakesText (over E.state err.old err.new) (token_words (option_map positioned_token token))) }
+    ensures err { OnErr result (WriteFailsWithin (over E.state err.old err.new)
+        (token_words (option_map positioned_token token))) }
 {
     let Some(token) = token else {
         return Ok(());
     };
-    line.push_str(TOKEN)?;
-    let text = token.text(alloc)?;
-    line.push_str(&text)
+    write_all(err, TOKEN.as_bytes())?;
+    write_all(err, &token.characters())
 }

@@ -5,7 +5,6 @@ use Rattle.std.specs.Prelude.{OnErr, OnOk, Result, Ok, Err, string_bytes}
 use Rattle.std.specs.List.{join_with_byte}
 use Rattle.bd_value.specs.Tree.{Doc, doc, fields_of}
 use Rattle.bd_io_device.specs.Devices.{WriteFailsWithin, Over, TakesPrefix, TakesText, Writer, between}
-use Rattle.bd_io_device.specs.declared.reading.ReadFault.{ReadFault}
 use Rattle.bd_io_device.proofs.DevicesLemmas.{write_fails_first, write_fails_second, takes_both}
 use Rattle.json.proofs.Printed.Utf8.{IsUtf8-are_ascii, IsUtf8-quoted}
 use Rattle.bd_extjson_text.specs.Text.{escape_byte, escaped, quoted, text}
@@ -13,7 +12,7 @@ use Rattle.bd_cli_scan.specs.{declared.output.OutputFault.OutputFault, declared.
 use Rattle.bd_cli_scan.specs.declared.output.OutputFault.TheVariants.{NoMemory, Unwritten}
 use Rattle.bd_cli_scan.specs.Output.{lines, Transcript, error_line, no_memory, stop_words}
 use Rattle.bd_cli_scan.specs.inside.Output.{StopsWithin, WritesSome, WritesText}
-use Rattle.bd_cli_scan.specs.Run.{Prints, ReportsMessage, partial_run, run_after}
+use Rattle.bd_cli_scan.specs.Run.{Prints, ReportsMessage, partial_run}
 use Rattle.json.specs.Print as printed
 
 -- the lines of two lists of documents are those of both joined
@@ -79,13 +78,6 @@ pub stop_output : (program : List ℕ) (out_old out_new err_old err_new : Writer
     → ReportsMessage (between err_old err_new) (error_line program (stop_words stopped)) Failed status → Prints program (partial_run output) (between out_old out_new) (between err_old err_new) status
 stop_output program out_old out_new err_old err_new status output NoMemory (prefix, rest, splits, took) reported = inr (inr (prefix, (rest, splits), took, reported))
 stop_output program out_old out_new err_old err_new status output Unwritten failed_write reported = inr (inl ([], output.out, (refl, refl), failed_write, reported))
-
--- an output for an input that was read completely
-pub after_input : {program : List ℕ} {Reads : Result (List ℕ) ReadFault → Type 0} {Is : Result (List ℕ) ReadFault → Transcript → Type 0} {out err : Over Writer} {status : Status}
-    (bytes : List ℕ) (output : Transcript) → Reads (Ok bytes) → Is (Ok bytes) output → Prints program (partial_run output) out err status → Prints program (run_after Reads Is) out err status
-after_input {program} {Reads} {Is} bytes output read is (inl (o, same, wrote, reported)) = inl (o, (Ok bytes, read, subst (λ (t : Transcript). Is (Ok bytes) t) (sym same) is), wrote, reported)
-after_input {program} {Reads} {Is} bytes output read is (inr (inl (text, piece, next, failed_write, reported))) = inr (inl (text, piece, (bytes, output, read, is, next), failed_write, reported))
-after_input {program} {Reads} {Is} bytes output read is (inr (inr (text, begun, wrote, reported))) = inr (inr (text, (bytes, output, read, is, begun), wrote, reported))
 
 -- ---- a path is UTF-8
 

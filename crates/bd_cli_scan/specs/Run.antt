@@ -1,8 +1,7 @@
 -- What a run of a command prints, for all commands.
 -- A command says which outputs its input may have, and where a run may stop before the end of one: that is its `Run`.
-use Rattle.std.specs.Prelude.{◌≡◌, ◌⊎◌, ℕ, List, [], ◌++◌, Result, Ok}
+use Rattle.std.specs.Prelude.{◌≡◌, ◌⊎◌, ℕ, List, [], ◌++◌}
 use Rattle.bd_io_device.specs.Devices.{WriteFailsAfter, WriteFailsWithin, Over, TakesText, Writer}
-use Rattle.bd_io_device.specs.declared.reading.ReadFault.{ReadFault}
 use Rattle.bd_cli_scan.specs.{declared.output.Status.Status, declared.output.Status.TheVariants.Failed}
 use Rattle.bd_cli_scan.specs.Output.{Transcript, cannot_write, error_line, no_memory}
 
@@ -46,14 +45,4 @@ partial_run output = record {
   IsOutput = λ o. o ≡ output;
   IsNext = λ text piece. (text ≡ []) × (piece ≡ output.out);
   IsBegun = λ text. (rest : List ℕ) × (output.out ≡ text ++ rest);
-}
-
--- a run that reads its whole input first, and then prints an output for it, or stops anywhere in it
-abbrev pub run_after : (Result (List ℕ) ReadFault → Type 0) → (Result (List ℕ) ReadFault → Transcript → Type 0) → Run
-run_after Reads IsOutputFor = record {
-  IsOutput = λ output. (input : Result (List ℕ) ReadFault) × Reads input × IsOutputFor input output;
-  IsNext = λ text piece. (bytes : List ℕ) × (output : Transcript) × Reads (Ok bytes) × IsOutputFor (Ok bytes) output
-      × (partial_run output).IsNext text piece;
-  IsBegun = λ text. (bytes : List ℕ) × (output : Transcript) × Reads (Ok bytes) × IsOutputFor (Ok bytes) output
-      × (partial_run output).IsBegun text;
 }

@@ -29,11 +29,12 @@ pub record AwaitsFirst (s : State) (hint : Option (List ℕ)) : Type 0 where
   pub is_unopened : s ≡ before_first index_keys
   pub is_there : has_index index_keys hint ≡ true
 
--- A cursor was opened whose remaining documents are those requested; or it is refused, or memory ran out.
-abbrev pub IsOpenedOn : Query → Option Token → State → Result ℕ Refused → Type 0
-IsOpenedOn q token s (Ok id) =
+-- A cursor was opened whose remaining documents are those requested, and the named index exists; or it is refused, or memory ran out.
+abbrev pub IsOpenedOn : Query → Option Token → Option (List ℕ) → State → Result ℕ Refused → Type 0
+IsOpenedOn q token index s (Ok id) =
     (ps : List ℕ) × (places_from q token ≡ Ok ps) × (cursor_of id s.cursors ≡ Some (cursor_for id q token ps))
-IsOpenedOn q token s (Err refused) = IsRefusedPart (places_from q token) refused
+    × (has_index s.indexes index ≡ true)
+IsOpenedOn q token index s (Err refused) = IsRefusedPart (places_from q token) refused
 
 -- The cursor is open, and its remaining numbers are those of documents of the dump,
 -- no more than one batch may have.

@@ -7,7 +7,7 @@ pub returns-in_err-piece-clause-stops : goal.returns-in_err-piece-clause-stops
 returns-in_err-piece-clause-stops g c =
     let p = err_from_is_err_and c.from_residual.result c.from_residual.ensures.1 in
     rw (p.1, p.2) (finds.runs_out (IsEnded (g.P.PlacePrinter.is_text c.args.printer.now c.args.dump.now) c.args.end.now) c.args.places.now c.loop-place.place-index
-    (g.O.Output.state c.args.out.now) (g.O.Output.state c.loop-place.out) c.loop-place.invariant)
+    (g.O.Output.state c.args.out.now) (g.O.Output.state c.loop-place.out) c.loop-place.invariant c.loop-place-test.true)
 
 pub returns-in_err-write_all-clause-stops : goal.returns-in_err-write_all-clause-stops
 returns-in_err-write_all-clause-stops g c =

@@ -20,8 +20,8 @@ returns-in-Err-Message-clause-found g c =
     let none = rw c.in-Err-Message.field-0-is at c.in-Err-Message.ensures.fault in
     let reported = subst (λ (text : List ℕ). ReportsMessage (over g.E.Output.state c.args.err.now c.report_error.new.err) (error_line c.args.program.now text) Failed c.report_error.result) c.deref.ensures c.report_error.ensures in
     finds.output_found c.args.options.now (over g.R.Input.state c.args.input.now c.args.input.now) [] (refusal_output message) (rw none refl) (rw none refl)
-    (finds.refusal_is_output c.args.program.now (g.O.Output.state c.args.out.now) (g.O.Output.state c.args.out.now) (g.E.Output.state c.args.err.now)
-    (g.E.Output.state c.report_error.new.err) _ message (inl reported))
+    (finds.refusal_lines message (finds.refusal_is_output c.args.program.now (g.O.Output.state c.args.out.now) (g.O.Output.state c.args.out.now) (g.E.Output.state c.args.err.now)
+    (g.E.Output.state c.report_error.new.err) _ message (inl reported)))
 
 pub returns-in-Err-Refused-clause-found : goal.returns-in-Err-Refused-clause-found
 returns-in-Err-Refused-clause-found g c =
@@ -30,8 +30,8 @@ returns-in-Err-Refused-clause-found g c =
     let none = rw c.in-Err-Refused.field-0-is at c.in-Err-Refused.ensures.fault in
     let err = over g.E.Output.state c.args.err.now c.report_refused.new.err in
     finds.output_found c.args.options.now (over g.R.Input.state c.args.input.now c.args.input.now) [] (refusal_output message) (rw none refl) (rw none refl)
-    (finds.refusal_is_output c.args.program.now (g.O.Output.state c.args.out.now) (g.O.Output.state c.args.out.now) (g.E.Output.state c.args.err.now)
-    (g.E.Output.state c.report_refused.new.err) _ message (explain_refusal c.args.program.now err why c.report_refused.result c.report_refused.ensures))
+    (finds.refusal_lines message (finds.refusal_is_output c.args.program.now (g.O.Output.state c.args.out.now) (g.O.Output.state c.args.out.now) (g.E.Output.state c.args.err.now)
+    (g.E.Output.state c.report_refused.new.err) _ message (explain_refusal c.args.program.now err why c.report_refused.result c.report_refused.ensures)))
 
 pub print_found-requires-clause-within_limit : goal.print_found-requires-clause-within_limit
 print_found-requires-clause-within_limit g c =
