@@ -15,7 +15,7 @@ use Rattle.bd_query_filter.specs.{FilterMatch.is_array, FilterMatch.is_related, 
 use Rattle.bd_index_bounds.specs.Bounds.{KeyBounds, KeySet, all_bounds, all_element_bounds, bounds, bounds_at, bounds_here, conjunction, disjunction, element_bounds}
 use Rattle.bd_index_bounds.specs.Bounds.{is_among, is_listed, is_of_class, keys_equal_to, keys_of_each, keys_of_equal, keys_of_types, operator_bounds, rest_after, some_bounds, union, intersection}
 use Rattle.bd_wide_order.specs.Renumber.{Code, Codes, KeepOrder, IsOf, renumber, renumber_filter, renumber_filters, renumber_operator, renumber_operators}
-use Rattle.bd_wide_order.proofs.OrderLemmas.{classes_stay, equals_stay, order_stays}
+use Rattle.bd_wide_order.proofs.OrderLemmas.{classes_stay, equals_stay, of_whole, order_stays}
 
 -- One code for all paths:
 module _ (one : Code) where
@@ -58,7 +58,7 @@ module _ (one : Code) where
   first_stays (code_scope s fs) = refl
 
   class_stays : (class : Class) (k : Tree) → is_of_class class (r k) ≡ is_of_class class k
-  class_stays class (leaf (int32 n)) = refl
+  class_stays class (leaf (int32 n)) = of_whole (λ s. is_of_class class (leaf s) ≡ is_of_class class (leaf (int32 n))) one.narrow (one.becomes n) refl refl
   class_stays class (leaf _) = refl
   class_stays class (doc fs) = refl
   class_stays class (array ts) = refl

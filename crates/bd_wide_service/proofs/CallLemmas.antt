@@ -26,13 +26,13 @@ use Rattle.bd_cli_service.specs.Talk.{call_of, hint_path, request_for, way_by}
 use Rattle.bd_cli_service.specs.declared.call.CallFault.{CallFault}
 use Rattle.bd_cli_service.specs.declared.call.CallFault.TheVariants as parts
 use Rattle.bd_wide_number.specs.declared.number.Number.{Number}
-use Rattle.bd_wide_order.specs.{Query.renumber_request, Ranks.TypesAlike, Ranks.table_codes}
+use Rattle.bd_wide_order.specs.{Query.renumber_request, Ranks.table_codes}
 use Rattle.bd_wide_substitute.specs.Both.{IsRead}
-use Rattle.bd_wide_query.specs.{Coded.coded_query, Coded.valued_query, Nan.beside_nan}
-use Rattle.bd_wide_query.proofs.AlikeLemmas.{alike_back, alike_kept}
-use Rattle.bd_wide_find.specs.{Find.request_by_value, Types.fields_are_alike}
+use Rattle.bd_wide_query.specs.{Coded.coded_query, Coded.valued_query, Nan.beside_nan, Types.has_one_class}
+use Rattle.bd_wide_copy.specs.Classes.{no_longs}
+use Rattle.bd_wide_find.specs.Find.{request_by_value}
 use Rattle.bd_wide_find.proofs.{AnswerLemmas.coded_answers, AnswerLemmas.refusals_stay, AnswerLemmas.requests_are_read}
-use Rattle.bd_wide_find.proofs.{NumberLemmas.numbers_are_of, TypesLemmas.alike_renumbered}
+use Rattle.bd_wide_find.proofs.NumberLemmas.{numbers_are_of}
 use Rattle.bd_wide_service.specs.Call.{ByValue, IsCall, IsNoCall, IsNoCommandIn, IsNoSearch, IsSearch, coded_search, search_by_value, types_refusal}
 use Rattle.bd_wide_service.proofs.{ExplainLemmas.explained_by_value, IndexLemmas.counts_by_value}
 use Rattle.bd_wide_service.specs.inside.Call.{IsOver, RefusesWide, SearchesBy}
@@ -115,14 +115,14 @@ module _ (table : List ℤ) (numbers : List Number) (wholes : Doc) (f : FindComm
   both_after text r (Err why) v c = inr (why, v, c)
 
   requests_both : RequestsBoth
-  requests_both = go (request_of (valued_query numbers wholes f.filter) f.sort f.skip f.limit) refl
+  requests_both = go (request_of (valued_query no_longs numbers wholes f.filter) f.sort f.skip f.limit) refl
     where
-      go : (x : Result Request Reason) → request_of (valued_query numbers wholes f.filter) f.sort f.skip f.limit ≡ x → RequestsBoth
-      go (Err why) e = inr (session_refusal why, ap after_request e, ap after_request (refusals_stay table numbers wholes f.filter f.sort f.skip f.limit why e))
+      go : (x : Result Request Reason) → request_of (valued_query no_longs numbers wholes f.filter) f.sort f.skip f.limit ≡ x → RequestsBoth
+      go (Err why) e = inr (session_refusal why, ap after_request e, ap after_request (refusals_stay table no_longs numbers wholes f.filter f.sort f.skip f.limit why e))
       go (Ok r) e =
-          both_after (request_text (coded_query table numbers wholes f.filter) f.sort f.skip f.limit) r
+          both_after (request_text (coded_query table no_longs numbers wholes f.filter) f.sort f.skip f.limit) r
           (error_as path_refusal (named_index (hint_path f.hint))) (ap after_request e)
-          (ap after_request (requests_are_read table numbers wholes f.filter f.sort f.skip f.limit r e))
+          (ap after_request (requests_are_read table no_longs numbers wholes f.filter f.sort f.skip f.limit r e))
 
   -- a request with codes is that by value with codes
   requested_by_value : (c : Request) → coded ≡ Ok c → (r : Request) × (valued ≡ Ok r) × (c ≡ renumber_request (table_codes table) c.text r)
@@ -144,7 +144,7 @@ module _ (table : List ℤ) (numbers : List Number) (wholes : Doc) (f : FindComm
       go (inr (other, v, w)) = v ∙ sym w ∙ is
 
   module _ (by_texts : Request) (first : request_for f ≡ Ok by_texts) where
-    module _ (fits : Fits (doc (fields_of (coded_query table numbers wholes f.filter)))) where
+    module _ (fits : Fits (doc (fields_of (coded_query table no_longs numbers wholes f.filter)))) where
       -- the search with codes is refused
       pub coded_refused : (fault : CallFault) → RefusesPart coded fault → RefusesWide (IsNoSearch table numbers wholes f) (wide_fault fault)
       coded_refused = part_refused coded (IsNoSearch table numbers wholes f) (λ why is. inr ((by_texts, first), inr (fits, inl (refused_by_value why is))))
@@ -153,11 +153,9 @@ module _ (table : List ℤ) (numbers : List Number) (wholes : Doc) (f : FindComm
           (beside : (r : Request) (text : List ℕ) → c ≡ renumber_request (table_codes table) text r
           → view ≡ renumber_request (table_codes table) text (record r { filter = beside_nan table r.filter })) where
         -- the search with codes is that by value
-        pub is_search : fields_are_alike (fields_of f.filter) ≡ true → TypesAlike view.filter → SearchesBy table numbers wholes f view
-        is_search named alike =
-            let (r, by, is) = requested_by_value c requested in
-            let beside_is = beside r c.text is in
-            let types = alike_back (table_codes table) table r.filter (subst TypesAlike (ap (λ (x : Request). x.filter) beside_is) alike) in (
+        pub is_search : has_one_class (fields_of f.filter) ≡ true → SearchesBy table numbers wholes f view
+        is_search alike =
+            let (r, by, is) = requested_by_value c requested in (
               request_by_value table r c,
               record {
                 by_texts = by_texts;
@@ -165,28 +163,19 @@ module _ (table : List ℤ) (numbers : List Number) (wholes : Doc) (f : FindComm
                 fits = fits;
                 request = r;
                 requested = by;
-                named_alike = named;
-                alike = types;
+                alike = alike;
                 coded = c;
                 written = requested;
                 is = refl;
               },
-              beside_is,
+              beside r c.text is,
             )
 
-        -- some of the types of numbers are requested
-        pub types_refused : (fields_are_alike (fields_of f.filter) ≡ false) ⊎ (TypesAlike view.filter → ⊥) → IsNoSearch table numbers wholes f types_refusal
-        types_refused why =
+        -- types of numbers are told apart
+        pub types_refused : has_one_class (fields_of f.filter) ≡ false → IsNoSearch table numbers wholes f types_refusal
+        types_refused apart =
             let (r, by, is) = requested_by_value c requested in
-            let beside_is = beside r c.text is in
-            let go : (fields_are_alike (fields_of f.filter) ≡ false) ⊎ (TypesAlike view.filter → ⊥)
-            → (fields_are_alike (fields_of f.filter) ≡ false) ⊎ (TypesAlike r.filter → ⊥)
-            = elim [
-              | inl named ↦ inl named
-              | inr unlike ↦ inr (λ alike. unlike (subst TypesAlike (sym (ap (λ (x : Request). x.filter) beside_is))
-                  (alike_renumbered (table_codes table) (beside_nan table r.filter) (alike_kept table r.filter alike))))
-            ] in
-            inr ((by_texts, first), inr (fits, inr (r, by, go why, refl)))
+            inr ((by_texts, first), inr (fits, inr (r, by, apart, refl)))
 
 -- ---- calls
 
@@ -196,21 +185,18 @@ module _ {bytes : List ℕ} (v : ByValue bytes) (table : List ℤ) (copy : Dump)
   of_dump f view = subst (λ (t : List ℤ). SearchesBy t numbers wholes f view) (sym over.table_is)
 
   module _ (f : FindCommand) (view r : Request) (search : IsSearch v.table numbers wholes f r) (is : view ≡ renumber_request (table_codes v.table) r.text r) where
-    types_alike : TypesAlike r.filter
-    types_alike = subst TypesAlike (ap (λ (x : Request). x.filter) (sym search.is)) (alike_kept v.table search.request.filter search.alike)
-
     -- the query over the copy is that by value
     query_is : query_to (bytes_of_dump copy) (documents copy) view ≡ query_to v.copy v.ds r
     query_is =
         ap₂ (λ (b : List ℕ) (x : Request). query_to b (documents copy) x) over.bytes_are is
         ∙ ap (λ (ds : List Doc). query_to v.copy ds (renumber_request (table_codes v.table) r.text r)) over.documents_are
-        ∙ coded_answers v.table r types_alike v.ds (numbers_are_of v.table v.ds v.has.same) v.copy r.text
+        ∙ coded_answers v.table r v.ds (numbers_are_of v.table v.ds v.has.same) v.copy r.text
 
     -- the explanation over the copy is that by value
     explanation_is : (way : Way) → explanation_for (documents copy) view way ≡ explanation_for v.ds r way
     explanation_is way =
         ap₂ (λ (ds : List Doc) (x : Request). explanation_for ds x way) over.documents_are is
-        ∙ explained_by_value v.table r types_alike v.ds (numbers_are_of v.table v.ds v.has.same) r.text way
+        ∙ explained_by_value v.table r v.ds (numbers_are_of v.table v.ds v.has.same) r.text way
 
   module _ (f : FindCommand) (request : RequestInMemory) (choice : Choice) (searches : SearchesBy table numbers wholes f (request_view request))
       (way : way_of choice ≡ way_by f.hint) where

@@ -21,15 +21,15 @@ use Rattle.bd_cursor.specs.Explanation.{entries_within, explained_access, explan
 use Rattle.bd_cursor.specs.declared.explaining.Plan.TheVariants as plans
 use Rattle.bd_path.specs.declared.sort.Dir.{Dir}
 use Rattle.bd_wide_rank.specs.Rank.{code}
-use Rattle.bd_wide_copy.specs.{Copy.int32_of, Dump.coded_documents}
-use Rattle.bd_wide_order.specs.{Query.renumber_request, Ranks.TypesAlike, Ranks.table_codes}
+use Rattle.bd_wide_copy.specs.{Copy.number_coded, Dump.coded_documents}
+use Rattle.bd_wide_order.specs.{Query.renumber_request, Ranks.table_codes}
 use Rattle.bd_wide_order.specs.Renumber.{Code, Codes, DocumentsAreOf, IsOf, KeepOrder, ReadsAlike, renumber, renumber_document, renumber_documents, renumber_filter}
 use Rattle.bd_wide_order.proofs.RankLemmas.{ranks_keep_order}
 use Rattle.bd_wide_order.proofs.ReachLemmas.{any_map, collected, keys_stay, list_is_of, passing_over}
 use Rattle.bd_wide_find.proofs.AnswerLemmas.{coded_answers}
-use Rattle.bd_wide_find.proofs.WidthLemmas.{as_int64, documents_widen, filter_is_wide, stay_in_order}
+use Rattle.bd_wide_find.proofs.RenumberLemmas.{copies_are}
 use Rattle.bd_wide_service.proofs.BoundsLemmas.{BoundsAlike, among_stays, bounds_stay, everywhere}
-use Rattle.bd_wide_service.proofs.IndexLemmas.{EachIsOf, counts_stay, document_stays, each_of_all, entries_stay, multikey_stays, renumber_entry}
+use Rattle.bd_wide_service.proofs.IndexLemmas.{EachIsOf, counts_stay, document_stays, entries_stay, multikey_stays, renumber_entry}
 
 -- ---- the keys of documents have the documents' numbers
 
@@ -243,20 +243,19 @@ module _ (one : Code) where
 
 -- ---- the copy of a dump
 
-module _ (table : List ℤ) (r : Request) (alike : TypesAlike r.filter) (ds : List Doc) (are : DocumentsAreOf (table_codes table) ds) (text : List ℕ) where
+module _ (table : List ℤ) (r : Request) (ds : List Doc) (are : DocumentsAreOf (table_codes table) ds) (text : List ℕ) where
   abbrev copies : List Doc
-  copies = coded_documents (int32_of (code table)) ds
+  copies = coded_documents (number_coded (code table)) ds
 
   matches_are : length (matching (selection_for copies (renumber_filter (table_codes table) r.filter) r.sorts r.skip r.limit))
       ≡ length (matching (selection_for ds r.filter r.sorts r.skip r.limit))
-  matches_are = ap (λ (q : Query). length (matching q.selection)) (coded_answers table r alike ds are [] text)
+  matches_are = ap (λ (q : Query). length (matching q.selection)) (coded_answers table r ds are [] text)
 
   explains : (way : Way) (is : List IndexKey) → explanation_for copies (renumber_request (table_codes table) text r) way is ≡ explanation_for ds r way is
   explains way is =
       let n = length (matching (selection_for ds r.filter r.sorts r.skip r.limit)) in
       ap (λ (m : ℕ). explained_access copies m (access_of copies (renumber_filter (table_codes table) r.filter) r.sorts way is)) matches_are
-      ∙ sym (access_explains (as_int64 []) stay_in_order copies (each_of_all copies) n (renumber_filter (table_codes table) r.filter) r.sorts way is)
-      ∙ ap₂ (λ (es : List Doc) (f : Filter). explained_access es n (access_of es f r.sorts way is)) (documents_widen table ds) (filter_is_wide table r.filter)
+      ∙ ap (λ (es : List Doc). explained_access es n (access_of es (renumber_filter (table_codes table) r.filter) r.sorts way is)) (copies_are table ds)
       ∙ access_explains (table_codes table []) (ranks_keep_order table) ds (recursion_from_All (λ d. IsOf (table_codes table) (doc (fields_of d))) ds are) n
       r.filter r.sorts way is
 

@@ -9,21 +9,16 @@ use Rattle.bd_cursor_model.specs.Session.{IndexCounts, IndexKey}
 use Rattle.bd_index.specs.Entries.{KeyAt, entries_from, has_two_keys, is_multikey, keys_at}
 use Rattle.bd_cursor.specs.{Access.index_key_names, Explanation.index_counts}
 use Rattle.bd_wide_rank.specs.Rank.{code}
-use Rattle.bd_wide_copy.specs.{Copy.int32_of, Dump.coded_documents}
+use Rattle.bd_wide_copy.specs.{Copy.number_coded, Dump.coded_documents}
 use Rattle.bd_wide_order.specs.Ranks.{table_codes}
 use Rattle.bd_wide_order.specs.Renumber.{Codes, DocumentsAreOf, IsOf, KeepOrder, ReadsAlike, below, renumber, renumber_document, renumber_documents, renumber_fields, under}
-use Rattle.bd_wide_order.proofs.{MatchLemmas.is_of_all, RankLemmas.ranks_keep_order, ReachLemmas.any_map, ReachLemmas.keys_stay}
+use Rattle.bd_wide_order.proofs.{RankLemmas.ranks_keep_order, ReachLemmas.any_map, ReachLemmas.keys_stay}
 use Rattle.bd_wide_order.proofs.RankLemmas as ranks
-use Rattle.bd_wide_find.proofs.WidthLemmas.{all_read_alike, as_int64, documents_widen, stay_in_order}
+use Rattle.bd_wide_find.proofs.RenumberLemmas.{copies_are}
 
 -- Each number in each of the documents may occur at its path.
 abbrev pub EachIsOf : Codes → List Doc → Type 0
 EachIsOf c ds = Each (λ d. IsOf c (doc (fields_of d))) ds
-
--- documents in which every number may occur
-pub each_of_all : (ds : List Doc) → EachIsOf as_int64 ds
-each_of_all [] = tt
-each_of_all (d ∷ ds) = (is_of_all as_int64 (λ path n. refl) (doc (fields_of d)), each_of_all ds)
 
 module _ (c : Codes) where
   fields_stay : (d : Doc) → fields_of (renumber_document c d) ≡ renumber_fields c (fields_of d)
@@ -76,10 +71,8 @@ module _ (c : Codes) (up : KeepOrder c) (i : IndexKey) (lead : ReadsAlike c (ind
 
 -- an index of the copy of a dump has as many entries as one of its documents
 pub counts_by_value : (table : List ℤ) (ds : List Doc) → DocumentsAreOf (table_codes table) ds → (i : IndexKey)
-    → index_counts (coded_documents (int32_of (code table)) ds) i ≡ index_counts ds i
+    → index_counts (coded_documents (number_coded (code table)) ds) i ≡ index_counts ds i
 counts_by_value table ds are i =
-    let copies = coded_documents (int32_of (code table)) ds in
     let each : EachIsOf (table_codes table) ds = recursion_from_All (λ d. IsOf (table_codes table) (doc (fields_of d))) ds are in
-    sym (counts_stay as_int64 stay_in_order i (all_read_alike (index_key_names i)) copies (each_of_all copies))
-    ∙ ap (λ (es : List Doc). index_counts es i) (documents_widen table ds)
+    ap (λ (es : List Doc). index_counts es i) (copies_are table ds)
     ∙ counts_stay (table_codes table) (ranks_keep_order table) i (ranks.all_read_alike table (index_key_names i)) ds each

@@ -15,7 +15,8 @@ use Rattle.bd_cursor.specs.declared.session.Session.{Session}
 use Rattle.std.specs.declared.alloc.AllocError.{AllocError}
 use Rattle.bd_cli_service.specs.declared.reply.Reply.TheVariants as replies
 use Rattle.bd_wide_rank.specs.{Rank.code, Table.worths, Worth.worth}
-use Rattle.bd_wide_copy.specs.{Copy.int32_of, Dump.AreDocuments, Dump.IsCount, Dump.bytes_of}
+use Rattle.bd_wide_copy.specs.{Classes.no_longs, Copy.number_coded, Dump.AreDocuments, Dump.IsCount, Dump.bytes_of}
+use Rattle.bd_wide_copy.proofs.ClassLemmas.{are_classed}
 use Rattle.bd_wide_find.specs.{Coded.CopiesDump, Coded.IsTableOf, Printer.IsWideText}
 use Rattle.bd_wide_find.proofs.SearchLemmas.{coded_count, count_is}
 use Rattle.bd_wide_service.specs.Call.{ByValue, IsCallIn}
@@ -37,21 +38,19 @@ on_err (Err e) implies is = implies is
 
 -- ---- a new session
 
-module _ (bytes : List ℕ) (table : List ℤ) (copy : Dump) (are : AreDocuments bytes) (copies : CopiesDump bytes table copy) where
+module _ (bytes : List ℕ) (table : List ℤ) (copy : Dump) (are : AreDocuments bytes) (copies : CopiesDump no_longs bytes table copy) where
   -- the copy has as many documents as the dump
   pub counted : IsCount bytes (length (documents copy))
   counted =
-      let ds = (are worth).0 in
-      let joined = (are worth).1 in
-      let same : length (documents copy) ≡ length ds = ap (λ (es : List Doc). length es) (copies.documents_are ds joined) ∙ coded_count (int32_of (code table)) ds in
-      subst (λ n. IsCount bytes n) (sym same) (count_is ds bytes joined)
+      let (ds, joined) = are_classed no_longs worth bytes are in
+      let same : length (documents copy) ≡ length ds = ap (λ (es : List Doc). length es) (copies.documents_are ds joined) ∙ coded_count (number_coded (code table)) ds in
+      subst (λ n. IsCount bytes n) (sym same) (count_is no_longs ds bytes joined)
 
   -- a dump by value, by its table and its copy
   pub by_value : IsTableOf bytes table → (v : ByValue bytes) × IsOver v table copy
   by_value is =
-      let ds = (are worth).0 in
-      let joined = (are worth).1 in (
-        record { ds = ds; table = table; has = is ds joined; copy = bytes_of_dump copy; copied = copies.copied },
+      let (ds, joined) = are_classed no_longs worth bytes are in (
+        record { ds = ds; table = table; has = is no_longs ds joined; copy = bytes_of_dump copy; copied = copies.copied },
         record { table_is = refl; bytes_are = refl; documents_are = copies.documents_are ds joined },
       )
 
@@ -92,7 +91,7 @@ module _ {bytes : List ℕ} (v : ByValue bytes) (s : WideService) (over : IsServ
   ds = documents (dump_of s.session)
 
   counts : length ds ≡ length v.ds
-  counts = ap (λ (es : List Doc). length es) over.copies_are ∙ coded_count (int32_of (code v.table)) v.ds
+  counts = ap (λ (es : List Doc). length es) over.copies_are ∙ coded_count (number_coded (code v.table)) v.ds
 
   batch_text : (b : Batch) (text : List ℕ) → IsWritten s (replies.Gave b) text → IsReplyText v (Ok (machine.gave (given_batch b))) text
   batch_text b text (texts, are, is) = (

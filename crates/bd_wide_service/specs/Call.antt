@@ -13,24 +13,23 @@ use Rattle.bd_cli_service.specs.Reply.{ReportedRefusal, command_refusal, json_re
 use Rattle.bd_cli_service.specs.Talk.{call_of, hint_path, request_for, way_by}
 use Rattle.bd_wide_number.specs.declared.number.Number.{Number}
 use Rattle.bd_wide_rank.specs.{Rank.code, Worth.worth}
-use Rattle.bd_wide_copy.specs.{Copy.int32_of, Dump.IsCopyOfDump, Dump.coded_documents}
-use Rattle.bd_wide_order.specs.{Ranks.TypesAlike}
+use Rattle.bd_wide_copy.specs.{Classes.no_longs, Copy.number_coded, Dump.IsCopyOfDump, Dump.coded_documents}
 use Rattle.bd_wide_substitute.specs.Both.{IsRead, IsUnread}
-use Rattle.bd_wide_query.specs.Coded.{coded_query, valued_query}
-use Rattle.bd_wide_find.specs.{Find.HasTable, Find.request_by_value, Types.fields_are_alike}
+use Rattle.bd_wide_query.specs.{Coded.coded_query, Coded.valued_query, Types.has_one_class}
+use Rattle.bd_wide_find.specs.Find.{HasTable, request_by_value}
 
 -- A dump of these bytes by value: its documents, the worth of each number in them once, and a copy of the dump in which each number
--- is its rank among those.
+-- is its rank among those. The types of numbers are one class.
 pub record ByValue (bytes : List ℕ) : Type 0 where
   pub ds : List Doc
   pub table : List ℤ
-  pub has : HasTable bytes ds table
+  pub has : HasTable no_longs bytes ds table
   pub copy : List ℕ
-  pub copied : IsCopyOfDump worth (code table) bytes copy
+  pub copied : IsCopyOfDump no_longs worth (code table) bytes copy
 
 -- the documents of the copy
 abbrev pub copies : {bytes : List ℕ} → ByValue bytes → List Doc
-copies v = coded_documents (int32_of (code v.table)) v.ds
+copies v = coded_documents (number_coded (code v.table)) v.ds
 
 -- ---- commands
 
@@ -70,11 +69,11 @@ types_refusal = record { layer = codes "numbers"; number = 1; words = codes "the
 module _ (table : List ℤ) (numbers : List Number) (wholes : Doc) (f : FindCommand) where
   -- the search by value
   abbrev pub search_by_value : FindCommand
-  search_by_value = with_filter (valued_query numbers wholes f.filter) f
+  search_by_value = with_filter (valued_query no_longs numbers wholes f.filter) f
 
   -- the search with ranks
   abbrev pub coded_search : FindCommand
-  coded_search = with_filter (coded_query table numbers wholes f.filter) f
+  coded_search = with_filter (coded_query table no_longs numbers wholes f.filter) f
 
   -- This is its request by value, with NaN as in MongoDB. The text is that of the request with ranks.
   pub record IsSearch (r : Request) : Type 0 where
@@ -83,8 +82,7 @@ module _ (table : List ℤ) (numbers : List Number) (wholes : Doc) (f : FindComm
     pub fits : Fits (doc (fields_of coded_search.filter))
     pub request : Request
     pub requested : request_for search_by_value ≡ Ok request
-    pub named_alike : fields_are_alike (fields_of f.filter) ≡ true
-    pub alike : TypesAlike request.filter
+    pub alike : has_one_class (fields_of f.filter) ≡ true
     pub coded : Request
     pub written : request_for coded_search ≡ Ok coded
     pub is : r ≡ request_by_value table request coded
@@ -93,11 +91,11 @@ module _ (table : List ℤ) (numbers : List Number) (wholes : Doc) (f : FindComm
   abbrev pub IsUnfit : ReportedRefusal → Type 0
   IsUnfit why = (Fits (doc (fields_of coded_search.filter)) → ⊥) × (why ≡ json_refusal (record { kind = NotADocument; at = 0 }))
 
-  -- The search by value is refused, or is for some of the types of numbers.
+  -- The search by value is refused, or tells types of numbers apart.
   abbrev pub IsRefusedByValue : ReportedRefusal → Type 0
   IsRefusedByValue why = (request_for search_by_value ≡ Err why)
       ⊎ ((request : Request) × (request_for search_by_value ≡ Ok request)
-      × ((fields_are_alike (fields_of f.filter) ≡ false) ⊎ (TypesAlike request.filter → ⊥)) × (why ≡ types_refusal))
+      × (has_one_class (fields_of f.filter) ≡ false) × (why ≡ types_refusal))
 
   -- It is refused: by what it requests with empty texts, otherwise for its filter with ranks, otherwise by value.
   abbrev pub IsNoSearch : ReportedRefusal → Type 0

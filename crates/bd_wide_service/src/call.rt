@@ -21,9 +21,10 @@ use bd_cursor::Choice;
 use bd_cursor_request::Request;
 use bd_extjson_fault::{JsonFault, JsonFaultKind};
 use bd_value::{Document, NoMemory, Reading, Tree, document_fits, to_document};
-use bd_wide_find::{beside_nan, takes_types_alike};
+use bd_wide_copy::Longs;
+use bd_wide_find::beside_nan;
 use bd_wide_number::Number;
-use bd_wide_query::{WideQuery, code_query, read_query};
+use bd_wide_query::{WideQuery, code_query, read_query, takes_types_alike};
 use bd_wide_rank::Table;
 use std::alloc::{AllocError, Global};
 
@@ -183,7 +184,7 @@ fn coded_search(
         limit,
         hint,
     } = find;
-    let Some(filter) = code_query(alloc, wholes, &texts, numbers, table)? else {
+    let Some(filter) = code_query(alloc, wholes, &texts, numbers, table, Longs::none())? else {
         return Err(WideCallFault::Refused(LineRefusal::Json(NOT_A_DOCUMENT)));
     };
     document_fits(&filter);
@@ -196,7 +197,7 @@ fn coded_search(
     };
     let (request, choice) = read_search(alloc, coded)?;
     let request = beside_nan(alloc, request, table)?;
-    if !takes_types_alike(&texts, &request.filter) {
+    if !takes_types_alike(&texts) {
         return Err(WideCallFault::Types);
     }
     Ok((request, choice))

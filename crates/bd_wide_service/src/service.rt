@@ -11,7 +11,7 @@ use bd_cli_service::{Call, LineRefusal, Reply, perform, write_batch, write_refus
 use bd_cursor::Session;
 use bd_io_lines::Replier;
 use bd_value::NoMemory;
-use bd_wide_copy::WideDump;
+use bd_wide_copy::{Longs, WideDump};
 use bd_wide_find::{WidePrinter, coded_copy, table_of};
 use bd_wide_rank::Table;
 use std::alloc::{AllocError, Global};
@@ -43,7 +43,7 @@ impl WideService {
         ensures state { IfOk result (λ s. service_state s ≡ new_state) }
     {
         let table = table_of(alloc, &dump)?;
-        let copy = coded_copy(alloc, &dump, &table)?;
+        let copy = coded_copy(alloc, &dump, &table, Longs::none())?;
         Ok(WideService {
             alloc,
             dump,

@@ -1,4 +1,4 @@
-use Rattle.std.proofs.{Common.◌≡◌, Common.Ok, Common.subst, lemmas.Result.err_from_is_err_and}
+use Rattle.std.proofs.{Common.◌≡◌, Common.◌∙◌, Common.sym, Common.Ok, Common.subst, lemmas.Result.err_from_is_err_and}
 use Rattle.bd_value.specs.{Fits.Fits, Tree.Doc, Tree.doc, Tree.fields_of, View.pairs}
 use Rattle.bd_cursor_request.specs.Request.{request_view}
 use Rattle.bd_cli_command.specs.Command.{FindCommand, find_tree}
@@ -14,7 +14,7 @@ returns-in_err-request-clause-fault c =
     let f = find_tree c.args.find in
     let by_texts = request_view c.in_ok-read_search.field-0.0 in
     let first = subst (λ (g : FindCommand). request_for g ≡ Ok by_texts) c.in_ok-copy_of.ensures c.in_ok-read_search.ensures.search in
-    let coded = rw c.in-Some.is at c.in_ok-filter.ensures in
+    let coded = rw (c.in-Some.is, c.none.ensures) at c.in_ok-filter.ensures in
     let fits = subst (λ (d : Doc). Fits (doc (fields_of d))) coded c.document_fits.ensures in
     let refused = subst (λ (d : Doc). RefusesPart (request_for (with_filter d f)) c.in_err-request.field-0.0) coded c.in_err-request.ensures.fault in
     rw (p.1, p.2) (coded_refused (worths c.args.table.now) c.args.numbers.now (pairs c.args.wholes.now) f by_texts first fits
@@ -25,22 +25,21 @@ returns-then-not-takes_types_alike-clause-fault c =
     let f = find_tree c.args.find in
     let by_texts = request_view c.in_ok-read_search.field-0.0 in
     let first = subst (λ (g : FindCommand). request_for g ≡ Ok by_texts) c.in_ok-copy_of.ensures c.in_ok-read_search.ensures.search in
-    let coded = rw c.in-Some.is at c.in_ok-filter.ensures in
+    let coded = rw (c.in-Some.is, c.none.ensures) at c.in_ok-filter.ensures in
     let fits = subst (λ (d : Doc). Fits (doc (fields_of d))) coded c.document_fits.ensures in
     let request = request_view c.in_ok-request.request in
     let requested = subst (λ (d : Doc). request_for (with_filter d f) ≡ Ok request) coded c.in_ok-request.ensures.search in
     types_refused (worths c.args.table.now) c.args.numbers.now (pairs c.args.wholes.now) f by_texts first fits request
-    (request_view c.in_ok-request-2.request) requested c.in_ok-request-2.ensures (c.takes_types_alike.ensures.unlike c.if-not-takes_types_alike.true)
+    (request_view c.in_ok-request-2.request) requested c.in_ok-request-2.ensures (sym c.takes_types_alike.ensures ∙ c.if-not-takes_types_alike.true)
 
 pub returns-clause-search : goal.returns-clause-search
 returns-clause-search c =
     let f = find_tree c.args.find in
     let by_texts = request_view c.in_ok-read_search.field-0.0 in
     let first = subst (λ (g : FindCommand). request_for g ≡ Ok by_texts) c.in_ok-copy_of.ensures c.in_ok-read_search.ensures.search in
-    let coded = rw c.in-Some.is at c.in_ok-filter.ensures in
+    let coded = rw (c.in-Some.is, c.none.ensures) at c.in_ok-filter.ensures in
     let fits = subst (λ (d : Doc). Fits (doc (fields_of d))) coded c.document_fits.ensures in
     let request = request_view c.in_ok-request.request in
     let requested = subst (λ (d : Doc). request_for (with_filter d f) ≡ Ok request) coded c.in_ok-request.ensures.search in
-    let alike = c.takes_types_alike.ensures.alike c.if-not-takes_types_alike.false in
     is_search (worths c.args.table.now) c.args.numbers.now (pairs c.args.wholes.now) f by_texts first fits request
-    (request_view c.in_ok-request-2.request) requested c.in_ok-request-2.ensures alike.0 alike.1
+    (request_view c.in_ok-request-2.request) requested c.in_ok-request-2.ensures (sym c.takes_types_alike.ensures ∙ c.if-not-takes_types_alike.false)
