@@ -5,8 +5,8 @@ use Rattle.std.specs.{Char.is_ascii_digit, List.list_all}
 use Rattle.jiff_core.specs.Calendar.{days_from_civil, days_in_month}
 use Rattle.bd_wide_read.specs.JsonNumber.{after_digits}
 
--- the next step, if there is a value
 infixl 10 ◌>>=◌
+-- the next step, if there is a value
 abbrev pub ◌>>=◌ : {A B : Type 0} → Option A → (A → Option B) → Option B
 o >>= f = option_and_then f o
 

@@ -1,4 +1,4 @@
-//! The doubles and decimal128 that texts mean.
+//! The doubles, decimal128, dates and UUIDs that texts mean.
 //!
 //! Which double a text means: `specs/DoubleText.antt`, over the numbers of RFC 8259 (`specs/JsonNumber.antt`). Which decimal128:
 //! `specs/DecimalText.antt`.
@@ -14,6 +14,7 @@
 //!
 //! - `double`: `read_double` for the text of a `$numberDouble`, `read_number` for a bare number.
 //! - `decimal128`: `read_decimal128`, without rounding.
+//! - `date`: `read_date`, for a date and a time of RFC 3339: `specs/DateText.antt`. `uuid_text`: `read_uuid`.
 //! - `json_number`: what a number of RFC 8259 is, and what follows it.
 //! - `fault`: why a text means no number of a type.
 //! - `laws`: the texts that `bd_wide_text` writes are read as what they were written for.

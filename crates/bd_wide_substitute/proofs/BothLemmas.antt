@@ -69,6 +69,7 @@ no_values s line [] are e = sym are
 no_values s line (same bytes ∷ ps) are e = ap (λ (x : List ℕ). bytes ++ x) (no_values s are.0 ps are.3 e) ∙ sym are.1
 no_values s line (value bytes v ∷ ps) are e = absurd (let c : v ∷ all_values ps ≡ [] = e in cc)
 
+-- no values, no numbers
 pub empty_numbers : (ps : List Piece) → all_values ps ≡ [] → all_numbers ps ≡ []
 empty_numbers [] e = refl
 empty_numbers (same bytes ∷ ps) e = empty_numbers ps e

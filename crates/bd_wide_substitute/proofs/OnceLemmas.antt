@@ -159,7 +159,7 @@ bare_first (c ∷ cs) bits rest n more bare run k = apart c 123 (brace c (cs ++ 
 run_rest : (bytes rest : List ℕ) → IsRun bytes rest → after is_of_number (bytes ++ rest) ≡ rest
 run_rest bytes rest run = run_then bytes rest run.0 ∙ run.1
 
--- two numbers at the start of one text
+-- two values at the start of one text
 number_once : (bytes others rest more : List ℕ) (n x : WideValue) → bytes ++ rest ≡ others ++ more → IsBefore (value bytes n) rest → IsBefore (value others x) more → (rest ≡ more) × (n ≡ x)
 number_once bytes others rest more n x is (inl h) (inl k) = wrapper_once (others ++ more) n x rest more (subst (λ (t : List ℕ). BeginsValue t n rest) is h) k
 number_once bytes others rest more n x is (inl h) (inr k) = absurd (bare_first others k.0.0 more n rest k.0.2 k.1 (subst (λ (t : List ℕ). BeginsValue t n rest) is h))
