@@ -30,6 +30,7 @@ module _ (table : List ℤ) where
   document_is [] = refl
   document_is (p ∷ ps) = ap₂ (λ (t : Tree) (qs : Doc). (p.0, t) ∷ qs) (value_is p.1) (document_is ps)
 
+  -- the copies of documents are the renumbered documents
   pub copies_are : (ds : List Doc) → coded_documents (number_coded (code table)) ds ≡ renumber_documents (table_codes table) ds
   copies_are [] = refl
   copies_are (d ∷ ds) = ap₂ ◌∷◌ (document_is d) (copies_are ds)

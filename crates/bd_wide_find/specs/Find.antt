@@ -59,7 +59,7 @@ pub record IsRequest (options : FindOptions) (longs : Longs) (numbers : List Num
   pub coded : Request
   pub written : requested_with options (coded_query table longs numbers wholes texts) ≡ Ok (coded, token)
 
--- the message for a query whose `$type`s tell more than two classes of numbers apart
+-- the message for a query whose `$type`s need more than two classes of numbers
 abbrev pub types_message : List ℕ
 types_message = codes "query: the types of numbers are not told apart here"
 

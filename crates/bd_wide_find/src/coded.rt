@@ -137,7 +137,7 @@ const NOT_A_DOCUMENT: JsonFault = JsonFault {
     at: 0,
 };
 
-/// The message for a query whose `$type`s tell more than two classes of numbers apart.
+/// The message for a query whose `$type`s need more than two classes of numbers.
 const TYPES: &str = "query: the types of numbers are not told apart here";
 
 /// The copy of a dump, with the codes of the numbers of a table, by the classes of their types.

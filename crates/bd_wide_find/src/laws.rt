@@ -23,14 +23,14 @@ pub fn coded_copies_answer_by_value()
         ≡ query_to copy ds (record r { text = text }) }
     ensures numbers { (table : List ℤ) (ds : List Doc) → HaveSame table (document_numbers ds) →
         DocumentsAreOf (table_codes table) ds }
-    ensures request { (table : List ℤ) (longs : Longs) (numbers : List Number) (wholes texts sort : Doc) →
-        (skip limit : ℕ) (r : Request) →
+    ensures request { (table : List ℤ) (longs : Longs) (numbers : List Number) →
+        (wholes texts sort : Doc) → (skip limit : ℕ) (r : Request) →
         request_of (valued_query longs numbers wholes texts) sort skip limit ≡ Ok r →
         let query = coded_query table longs numbers wholes texts in
         request_of query sort skip limit
         ≡ Ok (renumber_request (table_codes table) (request_text query sort skip limit) r) }
-    ensures refused { (table : List ℤ) (longs : Longs) (numbers : List Number) (wholes texts sort : Doc) →
-        (skip limit : ℕ) (why : Reason) →
+    ensures refused { (table : List ℤ) (longs : Longs) (numbers : List Number) →
+        (wholes texts sort : Doc) → (skip limit : ℕ) (why : Reason) →
         request_of (valued_query longs numbers wholes texts) sort skip limit ≡ Err why →
         request_of (coded_query table longs numbers wholes texts) sort skip limit ≡ Err why }
 {}

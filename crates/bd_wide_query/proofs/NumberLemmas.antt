@@ -2,7 +2,7 @@
 use Rattle.std.proofs.Common.{◌≡◌, ℕ, zero, suc, ◌+◌, ◌*◌, ◌/◌, ◌%◌, ◌<◌, ◌^◌, ℤ, pos, negsuc, List, [], ◌∷◌, Bool, true, false, cond, Option, Some, None, IfOk, IfSome, IfNone, MatchOption, Result, Ok, Err, drop, refl, sym, ap, ap₂, subst, ◌∙◌, arith, FitsSigned}
 use Rattle.std.specs.{Int.w64, Ordering.int_eq}
 use Rattle.std.proofs.lemmas.{Int.ints}
-use Rattle.bd_wide_query.specs.Types.{class_in_place, has_longs, type_alone}
+use Rattle.bd_wide_query.specs.Types.{class_instead, has_longs, type_alone}
 use Rattle.bd_value.specs.Tree.{Scalar, int32, int64, text, Tree, leaf, doc, array, code_scope, leaf_of, scalar_leaf}
 use Rattle.bd_value.specs.Fits.{Fits}
 use Rattle.bd_value.specs.View.{kind_of, tree_of}
@@ -124,8 +124,8 @@ kept_beyond longs p n = go (is_types p) (has_longs longs)
     t : Tree
     t = leaf (int64 (pos (2 ^ 64 + n)))
 
-    go : (a b : Bool) → cond a (cond b (class_in_place longs t (type_alone t)) t) t ≡ t
-    go true true = ap (class_in_place longs t) (beyond_types n)
+    go : (a b : Bool) → cond a (cond b (class_instead longs t (type_alone t)) t) t ≡ t
+    go true true = ap (class_instead longs t) (beyond_types n)
     go true false = refl
     go false b = refl
 

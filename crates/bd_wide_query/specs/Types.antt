@@ -54,7 +54,7 @@ is_type k t = is_alone k t || is_number_name t
 abbrev pub names_type : NumberType → Tree → Bool
 names_type k t = is_type k t || list_any (is_type k) (elements_in t)
 
--- ---- whether a query tells two types apart
+-- ---- whether a query separates two types
 
 -- whether the value of a name, if that is `$type`, names both types or neither
 abbrev pub is_alike_at : NumberType → NumberType → List ℕ → Tree → Bool
@@ -81,7 +81,7 @@ abbrev mutual
 
 -- ---- two classes of types
 
--- the types that some `$type` of a query tells from int32
+-- the types that some `$type` of a query separates from int32
 abbrev pub longs_of : Fields → Longs
 longs_of fs = record {
   double = not (fields_are_alike types.Int types.Double fs);
@@ -89,17 +89,17 @@ longs_of fs = record {
   decimal128 = not (fields_are_alike types.Int types.Decimal fs);
 }
 
--- whether no `$type` of a query tells the two types apart, if both are long
+-- whether no `$type` of a query separates the two types, if both are long
 abbrev pub is_one_class : Longs → NumberType → NumberType → Fields → Bool
 is_one_class longs j k fs = if is_long longs (element_type j) && is_long longs (element_type k) then fields_are_alike j k fs else true
 
--- whether two classes of types are enough for a query: no `$type` in it tells two long types apart, nor two others
+-- whether two classes of types are enough for a query: no `$type` in it separates two long types, nor two others
 abbrev pub has_two_classes : Fields → Bool
 has_two_classes fs = let longs = longs_of fs in
     (is_one_class longs types.Double types.Long fs && is_one_class longs types.Double types.Decimal fs)
     && is_one_class longs types.Long types.Decimal fs
 
--- whether a query tells none of the four types apart
+-- whether a query separates none of the four types
 abbrev pub has_one_class : Fields → Bool
 has_one_class fs = (fields_are_alike types.Int types.Double fs && fields_are_alike types.Int types.Long fs)
     && fields_are_alike types.Int types.Decimal fs
@@ -124,13 +124,13 @@ type_alone t =
     else None
 
 -- the name of its class in place of a type, if there is one; `number` and other types stay
-abbrev pub class_in_place : Longs → Tree → Option NumberType → Tree
-class_in_place longs t None = t
-class_in_place longs t (Some k) = leaf (text (class_name longs k))
+abbrev pub class_instead : Longs → Tree → Option NumberType → Tree
+class_instead longs t None = t
+class_instead longs t (Some k) = leaf (text (class_name longs k))
 
 -- a member of an operand of `$type`, by classes; if there is one class alone it stays
 abbrev pub type_by_class : Longs → Tree → Tree
-type_by_class longs t = if has_longs longs then class_in_place longs t (type_alone t) else t
+type_by_class longs t = if has_longs longs then class_instead longs t (type_alone t) else t
 
 -- an operand of `$type`, a type or an array of types, by classes
 abbrev mutual

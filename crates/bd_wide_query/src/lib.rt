@@ -19,7 +19,14 @@
 //! let table = numbers.into_table().expect(&rt, "few numbers");
 //! let query = read_query(alloc, b"{\"a\":{\"$gt\":1.5,\"$size\":2}}")?;
 //! let longs = Longs::none();
-//! let coded = code_query(alloc, &query.wholes, &query.texts, &query.numbers, &table, longs)?;
+//! let coded = code_query(
+//!     alloc,
+//!     &query.wholes,
+//!     &query.texts,
+//!     &query.numbers,
+//!     &table,
+//!     longs,
+//! )?;
 //! let mut text = Vec::new(alloc);
 //! write_doc(&coded.expect(&rt, "a query"), &mut text)?;
 //! let wanted = b"{\"a\":{\"$gt\":{\"$numberLong\":\"2\"},\"$size\":{\"$numberInt\":\"2\"}}}";

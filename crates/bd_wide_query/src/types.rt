@@ -1,4 +1,4 @@
-//! `$type` and the four types of numbers: which of them a query tells apart, and their classes.
+//! `$type` and the four types of numbers: which of them a query separates, and their classes.
 
 ghost use Rattle.std.specs.Prelude.{◌≡◌, IfNone, IfSome, false, true};
 ghost use Rattle.std.specs.List.{list_any};
@@ -78,7 +78,7 @@ pub fn classes_of(query: &Document) -> Option<Longs>
     if apart { Some(longs) } else { None }
 }
 
-/// Whether no `$type` of a query tells two of the types of numbers apart. It takes no memory.
+/// Whether no `$type` of a query separates two of the types of numbers. It takes no memory.
 pub fn takes_types_alike(query: &Document) -> bool
     ensures { result ≡ has_one_class (fields_of (pairs query.now)) }
 {
@@ -87,7 +87,7 @@ pub fn takes_types_alike(query: &Document) -> bool
         && are_alike(NumberType::Int, NumberType::Decimal, query)
 }
 
-/// The types of numbers that some `$type` of a query tells from int32.
+/// The types of numbers that some `$type` of a query separates from int32.
 fn longs_in(query: &Document) -> Longs
     ensures { result ≡ longs_of (fields_of (pairs query.now)) }
 {
@@ -98,7 +98,7 @@ fn longs_in(query: &Document) -> Longs
     }
 }
 
-/// Whether no `$type` of a query tells two types apart, if both are long.
+/// Whether no `$type` of a query separates two types, if both are long.
 fn is_one_class(longs: Longs, one: NumberType, other: NumberType, query: &Document) -> bool
     ensures { result ≡ is_one_class_of longs one other (fields_of (pairs query.now)) }
 {

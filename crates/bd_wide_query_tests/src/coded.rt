@@ -103,7 +103,7 @@ fn numbers_that_are_not_compared_with(rt: HostRuntime) -> Result<(), Fail> {
 #[test]
 fn two_classes(rt: HostRuntime) -> Result<(), Fail> {
     let alloc = rt.alloc();
-    // Doubles alone are told from the others.
+    // Doubles alone are separated from the others.
     let query =
         b"{\"a\":{\"$type\":\"double\",\"$not\":{\"$type\":[16,\"string\",{\"$numberLong\":\"18\"},\"decimal\"]}},\"b\":{\"$type\":\"number\"},\"c\":{\"d\":{\"$type\":\"number\"}}}";
     let wanted =

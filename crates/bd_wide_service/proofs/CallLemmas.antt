@@ -171,7 +171,7 @@ module _ (table : List ℤ) (numbers : List Number) (wholes : Doc) (f : FindComm
               beside r c.text is,
             )
 
-        -- types of numbers are told apart
+        -- types of numbers are separated
         pub types_refused : has_one_class (fields_of f.filter) ≡ false → IsNoSearch table numbers wholes f types_refusal
         types_refused apart =
             let (r, by, is) = requested_by_value c requested in

@@ -91,7 +91,7 @@ module _ (table : List ℤ) (numbers : List Number) (wholes : Doc) (f : FindComm
   abbrev pub IsUnfit : ReportedRefusal → Type 0
   IsUnfit why = (Fits (doc (fields_of coded_search.filter)) → ⊥) × (why ≡ json_refusal (record { kind = NotADocument; at = 0 }))
 
-  -- The search by value is refused, or tells types of numbers apart.
+  -- The search by value is refused, or separates types of numbers.
   abbrev pub IsRefusedByValue : ReportedRefusal → Type 0
   IsRefusedByValue why = (request_for search_by_value ≡ Err why)
       ⊎ ((request : Request) × (request_for search_by_value ≡ Ok request)
