@@ -79,6 +79,7 @@ start_inside bytes start s =
 abbrev Collected : (bytes starts : List ℕ) → ℕ → Type 0
 Collected bytes starts at = (all : AreAt bytes starts) × AreJoined (documents_starting_at bytes starts all) (take at bytes)
 
+-- the documents that were found so far begin at these places, and the next at `at`
 pub record SoFar (bytes starts : List ℕ) (at : ℕ) : Type 0 where
   pub collected : Collected bytes starts at
   pub inside : at ≤ length bytes
@@ -203,6 +204,7 @@ module _ (bytes : List ℕ) where
 pub same_documents : (bytes starts : List ℕ) (all other : AreAt bytes starts) → documents_starting_at bytes starts all ≡ documents_starting_at bytes starts other
 same_documents bytes starts all other = ap (documents_starting_at bytes starts) (AreAt-prop bytes starts all other)
 
+-- bytes with documents at all these places are the dump of these documents
 pub dump_is : (bytes here starts : List ℕ) (all : AreAt bytes starts) → here ≡ bytes → (h : AreAt here starts)
     × IsDump (documents_starting_at here starts h) here → IsDump (documents_starting_at bytes starts all) bytes
 dump_is bytes here starts all same found =

@@ -282,8 +282,8 @@ fn words_of_end(end: bool) -> &'static str
 /// Writes a token, if there is one.
 #[tactic(auto, using(bd_cli_scan::proofs::OutputLemmas::taking, bd_io_device::proofs::DevicesLemmas::takes_none))]
 fn write_token<E: Output>(token: Option<Token>, err: &mut E) -> Result<(), DeviceFault>
-    ensures ok { OnOk result
-        (TakesText (over E.state err.old err.new) (token_words (option_map positioned_token token))) }
+    ensures ok { OnOk result (TakesText (over E.state err.old err.new)
+        (token_words (option_map positioned_token token))) }
     ensures err { OnErr result (WriteFailsWithin (over E.state err.old err.new)
         (token_words (option_map positioned_token token))) }
 {

@@ -1,20 +1,21 @@
--- How a text can go on before its fault: bytes that complete the item, and what may come before and after them.
+-- How a text can continue before its fault: bytes that complete the item, and what may come before and after them.
 use Rattle.std.proofs.Common.{◌≡◌, ◌==◌, ◌∙◌, ◌++◌, sym, refl, ◌||◌, ◌&&◌, ◌⊎◌, inl, inr, if◌then◌else◌, ℕ, Bool, true, false, List, [], ◌∷◌, length, drop, ap, Ok, Err, Some, append_assoc}
 use Rattle.std.specs.Prelude.{Result, nat_lt}
 use Rattle.bd_extjson_fault.specs.declared.skip.Stop.{Stop}
 use Rattle.bd_extjson_fault.specs.declared.skip.StopKind.{StopKind}
 use Rattle.bd_extjson_fault.specs.declared.skip.StopKind.TheVariants.{Syntax}
-use Rattle.bd_extjson_fault.specs.FaultPlace.{CutsSurrogate}
+use Rattle.bd_extjson_fault.specs.FaultOffset.{SplitsSurrogate}
 use Rattle.bd_extjson_fault.specs.JsonSyntax.{Beyond, ◌>>=◌, syntax_at, begins, beyond_all, beyond_if, beyond_white, is_white, beyond_word, is_decimal, beyond_digits, beyond_natural, beyond_fraction, beyond_exponent, beyond_number}
-use Rattle.bd_extjson_fault.proofs.PlaceLemmas.{first_of, begins_same, begins_fits, ends, Fits, Gives, Passed, Always, stop_at, no_more, word_passes, run_of, run_ends}
-use Rattle.bd_extjson_fault.proofs.PlaceNumberLemmas.{whole_part, whole_oks, fraction_oks}
-use Rattle.bd_extjson_fault.proofs.PlaceLemmas.{then_oks}
+use Rattle.bd_extjson_fault.proofs.OffsetLemmas.{first_of, begins_same, begins_fits, ends, Fits, Gives, Passed, Always, stop_at, no_more, word_passes, run_of, run_ends}
+use Rattle.bd_extjson_fault.proofs.OffsetNumberLemmas.{whole_part, whole_oks, fraction_oks}
+use Rattle.bd_extjson_fault.proofs.OffsetLemmas.{then_oks}
 
 -- bytes of ASCII
 unfoldable pub plain : List ℕ → Bool
 plain [] = true
 plain (b ∷ text) = nat_lt b 128 && plain text
 
+-- no bytes are plain
 pub plain_nil : plain [] ≡ true
 unfolding plain
 plain_nil = refl
@@ -48,19 +49,20 @@ pub record Goes {A : Type 0} (says : List ℕ → Result A Stop → Type 0) (giv
   pub starts : (other : List ℕ) → Next other → Starts start text (before ++ (added ++ other))
   pub passes : (other : List ℕ) → Next other → says (before ++ (added ++ other)) (Ok (give other))
 
--- the bytes before the fault go on to a whole item, or end in an escape of a surrogate
+-- the bytes before the fault continue to a whole item, or end in an escape of a surrogate
 pub record Completed {A : Type 0} (says : List ℕ → Result A Stop → Type 0) (give : List ℕ → A) (Next : List ℕ → Type 0) (start : ℕ) (text : List ℕ) (stop : Stop) : Type 0 where
   pub before : List ℕ
   pub rest : List ℕ
   pub split : text ≡ before ++ rest
   pub remaining : stop.remaining ≡ length rest
-  pub goes : CutsSurrogate before ⊎ Goes says give Next start text before
+  pub goes : SplitsSurrogate before ⊎ Goes says give Next start text before
 
+-- An item whose fault is after this many bytes can be completed, and then this holds of what may follow.
 abbrev pub Completes : (List ℕ → Beyond) → (List ℕ → Type 0) → ℕ → Type 0
 Completes item Next start = (text : List ℕ) (stop : Stop) → item text ≡ Err stop → Completed (Gives item) (λ x. x) Next start text stop
 
-pub cut_past : (taken before : List ℕ) → CutsSurrogate before → CutsSurrogate (taken ++ before)
-cut_past taken before cut = (taken ++ cut.0, cut.1, ap (λ x. taken ++ x) cut.2 ∙ sym (append_assoc taken cut.0 cut.1), cut.3)
+pub splits_beyond : (taken before : List ℕ) → SplitsSurrogate before → SplitsSurrogate (taken ++ before)
+splits_beyond taken before splits = (taken ++ splits.0, splits.1, ap (λ x. taken ++ x) splits.2 ∙ sym (append_assoc taken splits.0 splits.1), splits.3)
 
 shape : (taken before added extra other : List ℕ) → (taken ++ before) ++ ((added ++ extra) ++ other) ≡ taken ++ (before ++ (added ++ (extra ++ other)))
 shape taken before added extra other = append_assoc taken before ((added ++ extra) ++ other) ∙ ap (λ x. taken ++ (before ++ x)) (append_assoc added extra other)
@@ -80,8 +82,8 @@ onward inner outer give gives Next More start begin text taken rest extra stop e
   goes = go c.goes;
 }
   where
-    go : CutsSurrogate c.before ⊎ Goes inner give Next start rest c.before → CutsSurrogate (taken ++ c.before) ⊎ Goes outer gives More begin text (taken ++ c.before)
-    go (inl cut) = inl (cut_past taken c.before cut)
+    go : SplitsSurrogate c.before ⊎ Goes inner give Next start rest c.before → SplitsSurrogate (taken ++ c.before) ⊎ Goes outer gives More begin text (taken ++ c.before)
+    go (inl splits) = inl (splits_beyond taken c.before splits)
     go (inr g) = inr (record {
       added = g.added ++ extra;
       plainly = plain_append g.added extra g.plainly p;
@@ -91,7 +93,7 @@ onward inner outer give gives Next More start begin text taken rest extra stop e
           (step (c.before ++ (g.added ++ (extra ++ other))) other (g.starts (extra ++ other) (nexts other more)) more (g.passes (extra ++ other) (nexts other more)));
     })
 
--- a fault at the first byte, where another item could stand
+-- a fault at the first byte, where another item could begin
 pub instead : {A : Type 0} (says : List ℕ → Result A Stop → Type 0) (give : List ℕ → A) (Next : List ℕ → Type 0) (start : ℕ) (text more : List ℕ) (kind : StopKind) (stop : Stop)
     → plain (start ∷ more) ≡ true → stop ≡ stop_at kind text → ((other : List ℕ) → Next other → says (start ∷ (more ++ other)) (Ok (give other)))
     → Completed says give Next start text stop
@@ -103,10 +105,10 @@ instead says give Next start text more kind stop p e passes = record {
   goes = inr (record { added = start ∷ more; plainly = p; starts = λ other next. inr refl; passes = passes });
 }
 
-pub starts_past : (start begin : ℕ) (text taken rest : List ℕ) → text ≡ taken ++ rest → ¬ (taken ≡ []) → (x : List ℕ) → Starts start rest x
+pub starts_beyond : (start begin : ℕ) (text taken rest : List ℕ) → text ≡ taken ++ rest → ¬ (taken ≡ []) → (x : List ℕ) → Starts start rest x
     → Starts begin text (taken ++ x)
-starts_past start begin text [] rest e some x s = absurd (some refl)
-starts_past start begin text (b ∷ taken) rest e some x s = inl (sym (ap first_of e))
+starts_beyond start begin text [] rest e some x s = absurd (some refl)
+starts_beyond start begin text (b ∷ taken) rest e some x s = inl (sym (ap first_of e))
 
 pub some_byte : (b : ℕ) (taken : List ℕ) → ¬ (b ∷ taken ≡ [])
 some_byte b taken e = absurd cc
@@ -133,6 +135,7 @@ some_taken item Next text rest p none next e =
 
 -- ---- items after one another
 
+-- two items one after the other are completed as the one with the fault is
 pub then_completes : (f g : List ℕ → Beyond) (P : List ℕ → List ℕ → Type 0) (Next More : List ℕ → Type 0) (start begin : ℕ) (whole : List ℕ)
     → plain whole ≡ true → f [] ≡ syntax_at [] → ((text rest : List ℕ) → f text ≡ Ok rest → Passed (Gives f) (λ x. x) (P rest) text rest)
     → ((rest : List ℕ) → P rest []) → ((rest x : List ℕ) → Starts start rest x → P rest x)
@@ -144,7 +147,7 @@ then_completes f g P Next More start begin whole p none oks nil fit nexts given 
     go (Ok rest) is e =
         let q = oks text rest is in
         onward (Gives g) (Gives (λ x. f x >>= g)) (λ x. x) (λ x. x) More More start begin text q.taken rest [] stop q.split plain_nil (λ other more. more)
-        (starts_past start begin text q.taken rest q.split (some_taken f (P rest) text rest q none (nil rest)))
+        (starts_beyond start begin text q.taken rest q.split (some_taken f (P rest) text rest q none (nil rest)))
         (λ x other s more h. rw (q.passes x (fit rest x s)) h) (second rest stop e)
     go (Err s) is e =
         let same : s ≡ stop = cc in
@@ -176,7 +179,7 @@ unfolding beyond_word
 word_more c [] b text stop true is p more e = let f : ◌≡◌ {A = Beyond} (Ok text) (Err stop) = rw is at e in absurd cc
 word_more c (d ∷ word) b text stop true is p more e =
     onward (Gives (beyond_word (d ∷ word))) (Gives (beyond_word (c ∷ d ∷ word))) (λ x. x) (λ x. x) Always Always d c (b ∷ text) (b ∷ []) text [] stop refl plain_nil
-    (λ other next. tt) (starts_past d c (b ∷ text) (b ∷ []) text refl (some_byte b [])) (λ x other s next h. rw is h) (more d word refl (rw is at e))
+    (λ other next. tt) (starts_beyond d c (b ∷ text) (b ∷ []) text refl (some_byte b [])) (λ x other s next h. rw is h) (more d word refl (rw is at e))
 word_more c word b text stop false is p more e =
     let f : ◌≡◌ {A = Beyond} (syntax_at (b ∷ text)) (Err stop) = rw is at e in
     instead (Gives (beyond_word (c ∷ word))) (λ x. x) Always c (b ∷ text) word Syntax stop p (cc) (λ other next. word_passes (c ∷ word) other)
@@ -185,6 +188,7 @@ plain_tail : (b : ℕ) (text : List ℕ) → plain (b ∷ text) ≡ true → pla
 unfolding plain
 plain_tail b text p = (parts_of (nat_lt b 128) (plain text) p).1
 
+-- a word is completed by its other bytes
 pub word_completes : (word : List ℕ) (c : ℕ) (more : List ℕ) → word ≡ c ∷ more → plain word ≡ true → Completes (beyond_word word) Always c
 unfolding beyond_word
 word_completes [] c more is p text stop e = absurd cc
@@ -232,7 +236,7 @@ if_completes is item start none completes text stop e = go text (begins is text)
     go : (t : List ℕ) (x : Bool) → begins is t ≡ x → item (beyond_if is t) ≡ Err stop → Completed (Gives (λ x. item (beyond_if is x))) (λ x. x) Ends start t stop
     go [] true at e = absurd cc
     go (b ∷ t) true at e = onward (Gives item) (Gives (λ x. item (beyond_if is x))) (λ x. x) (λ x. x) Ends Ends start start (b ∷ t) (b ∷ []) t [] stop refl plain_nil
-        (λ other end. end) (starts_past start start (b ∷ t) (b ∷ []) t refl (some_byte b [])) (λ x other s end h. rw at h) (completes t stop (rw at at e))
+        (λ other end. end) (starts_beyond start start (b ∷ t) (b ∷ []) t refl (some_byte b [])) (λ x other s end h. rw at h) (completes t stop (rw at at e))
     go t false at e = onward (Gives item) (Gives (λ x. item (beyond_if is x))) (λ x. x) (λ x. x) Ends Ends start start t [] t [] stop refl plain_nil
         (λ other end. end) (λ x s. s) (λ x other s end h. rw (begins_start is start t x none at s) h) (completes t stop (rw at at e))
 
@@ -245,7 +249,7 @@ optional_completes is item start begin completes (b ∷ text) stop e = go (is b)
     go : (x : Bool) → is b ≡ x → (if is b then item text else Ok (b ∷ text)) ≡ Err stop
         → Completed (Gives (λ x. if begins is x then item (drop 1 x) else Ok x)) (λ x. x) Ends begin (b ∷ text) stop
     go true at e = onward (Gives item) (Gives (λ x. if begins is x then item (drop 1 x) else Ok x)) (λ x. x) (λ x. x) Ends Ends start begin (b ∷ text) (b ∷ []) text [] stop refl plain_nil
-        (λ other end. end) (starts_past start begin (b ∷ text) (b ∷ []) text refl (some_byte b [])) (λ x other s end h. rw at h) (completes text stop (rw at at e))
+        (λ other end. end) (starts_beyond start begin (b ∷ text) (b ∷ []) text refl (some_byte b [])) (λ x other s end h. rw at h) (completes text stop (rw at at e))
     go false at e = let f : ◌≡◌ {A = Beyond} (Ok (b ∷ text)) (Err stop) = rw at at e in absurd cc
 
 abbrev after_sign : List ℕ → Beyond

@@ -1,4 +1,4 @@
--- How a string can go on before its fault.
+-- How a string can continue before its fault.
 use Rattle.std.proofs.Common.{◌≡◌, ◌≤◌, ◌<◌, ◌+◌, ◌*◌, ◌==◌, ◌∙◌, ◌++◌, sym, refl, ◌⊎◌, inl, inr, ℕ, zero, suc, Bool, true, false, List, [], ◌∷◌, length, drop, ap, Ok, Err, append_assoc, append-nil, length-append, le_refl, arith}
 use Rattle.std.specs.Prelude.{Result, codes, nat_lt, nat_le}
 use Rattle.std.specs.Char.{digit_value, is_digit}
@@ -6,11 +6,11 @@ use Rattle.std.proofs.lemmas.{Bool.Decides.nat_tests}
 use Rattle.json.specs.Text.{is_high_surrogate, is_low_surrogate}
 use Rattle.bd_extjson_fault.specs.declared.skip.Stop.{Stop}
 use Rattle.bd_extjson_fault.specs.declared.skip.StopKind.TheVariants.{Syntax}
-use Rattle.bd_extjson_fault.specs.FaultPlace.{begins_ud, CutsSurrogate}
+use Rattle.bd_extjson_fault.specs.FaultOffset.{begins_ud, SplitsSurrogate}
 use Rattle.bd_extjson_fault.specs.JsonSyntax.{Beyond, ◌>>=◌, syntax_at, begins, beyond_all, beyond_word, beyond_hex, beyond_unit, beyond_low, beyond_units, is_short_escape, beyond_escape, beyond_character, beyond_items, beyond_string, beyond_name}
-use Rattle.bd_extjson_fault.proofs.PlaceLemmas.{Gives, Always, stop_at, bind_ok, firm_piece, word_split, word_firm}
-use Rattle.bd_extjson_fault.proofs.PlaceStringLemmas.{Unit4, first, second, third, fourth, hex_of, Answered, same_number, character_piece, Items, items_on, items_close, is_quote, quoted, quoted_piece, colon, named}
-use Rattle.bd_extjson_fault.proofs.GoOnLemmas.{plain, plain_nil, plain_append, Goes, Completed, Completes, onward, instead, starts_past, some_byte, begins_start, then_completes, white_completes, word_completes}
+use Rattle.bd_extjson_fault.proofs.OffsetLemmas.{Gives, Always, stop_at, bind_ok, firm_piece, word_split, word_firm}
+use Rattle.bd_extjson_fault.proofs.OffsetStringLemmas.{Unit4, first, second, third, fourth, hex_of, Answered, same_number, character_piece, Items, items_on, items_close, is_quote, quoted, quoted_piece, colon, named}
+use Rattle.bd_extjson_fault.proofs.GoOnLemmas.{plain, plain_nil, plain_append, Goes, Completed, Completes, onward, instead, starts_beyond, some_byte, begins_start, then_completes, white_completes, word_completes}
 
 -- ---- escapes
 
@@ -81,10 +81,10 @@ low_unit other = refl
 -- digits that are not all there
 finish : (x rest digits zeros : List ℕ) (v : ℕ) (stop : Stop) → x ≡ digits ++ rest → stop.remaining ≡ length rest → plain zeros ≡ true
     → ((other : List ℕ) → beyond_unit (92 ∷ 117 ∷ (digits ++ (zeros ++ other))) ≡ Ok (v, other))
-    → (is_low_surrogate v ≡ true → CutsSurrogate (92 ∷ 117 ∷ digits))
+    → (is_low_surrogate v ≡ true → SplitsSurrogate (92 ∷ 117 ∷ digits))
     → Completed (Gives beyond_character) (λ x. x) Always 48 (92 ∷ 117 ∷ x) stop
 unfolding beyond_character beyond_escape beyond_units beyond_low plain
-finish x rest digits zeros v stop e remaining p unit cut = record {
+finish x rest digits zeros v stop e remaining p unit splits = record {
   before = 92 ∷ 117 ∷ digits;
   rest = rest;
   split = ap (λ t. 92 ∷ 117 ∷ t) e;
@@ -93,14 +93,14 @@ finish x rest digits zeros v stop e remaining p unit cut = record {
 }
   where
     go : (h : Bool) → is_high_surrogate v ≡ h → (l : Bool) → is_low_surrogate v ≡ l
-        → CutsSurrogate (92 ∷ 117 ∷ digits) ⊎ Goes (Gives beyond_character) (λ x. x) Always 48 (92 ∷ 117 ∷ x) (92 ∷ 117 ∷ digits)
+        → SplitsSurrogate (92 ∷ 117 ∷ digits) ⊎ Goes (Gives beyond_character) (λ x. x) Always 48 (92 ∷ 117 ∷ x) (92 ∷ 117 ∷ digits)
     go true h l low = inr (record {
       added = zeros ++ low_escape;
       plainly = plain_append zeros low_escape p refl;
       starts = λ other next. inl refl;
       passes = λ other next. rw (append_assoc zeros low_escape other, unit (92 ∷ 117 ∷ 100 ∷ 99 ∷ 48 ∷ 48 ∷ other), h, low_unit other) refl;
     })
-    go false h true low = inl (cut low)
+    go false h true low = inl (splits low)
     go false h false low = inr (record {
       added = zeros;
       plainly = p;
@@ -388,7 +388,7 @@ loop_step n text stop (Ok mid) le free is e more =
     let p = character_piece text mid is in
     let size : length text ≡ suc (length (p.more ++ mid)) = ap length p.split in
     onward (Items is_quote beyond_character) (Items is_quote beyond_character) (λ x. x) (λ x. x) Always Always 48 48 text (p.first ∷ p.more) mid [] stop p.split refl
-    (λ other next. tt) (starts_past 48 48 text (p.first ∷ p.more) mid p.split (some_byte p.first p.more))
+    (λ other next. tt) (starts_beyond 48 48 text (p.first ∷ p.more) mid p.split (some_byte p.first p.more))
     (λ x other s next h m le. items_on is_quote beyond_character p.first p.more x (Ok other) m (ap (begins is_quote) (sym p.split) ∙ free) (p.passes x) le h)
     (more mid (omega (arith, le, size, length-append p.more mid)) e)
 

@@ -1,16 +1,16 @@
--- How a value can go on before its fault.
+-- How a value can continue before its fault.
 use Rattle.std.proofs.Common.{◌≡◌, ◌≤◌, ◌<◌, ◌==◌, ◌∙◌, ◌++◌, sym, refl, ◌||◌, ◌⊎◌, inl, inr, ℕ, zero, suc, Bool, true, false, List, [], ◌∷◌, length, drop, ap, Ok, Err, append_assoc, append-nil, length-append, arith}
 use Rattle.std.specs.Prelude.{Result, codes}
 use Rattle.bd_value.specs.Limits.{most_brackets}
 use Rattle.bd_extjson_fault.specs.declared.skip.Stop.{Stop}
 use Rattle.bd_extjson_fault.specs.declared.skip.StopKind.TheVariants.{Syntax, TooDeep, TrailingText}
-use Rattle.bd_extjson_fault.specs.FaultPlace.{CutsSurrogate}
+use Rattle.bd_extjson_fault.specs.FaultOffset.{SplitsSurrogate}
 use Rattle.bd_extjson_fault.specs.JsonSyntax.{Beyond, ◌>>=◌, syntax_at, begins, beyond_all, beyond_white, is_white, beyond_word, beyond_string, beyond_natural, beyond_number, beyond_name, beyond_next, beyond_parts, beyond_group, beyond_array, beyond_member, beyond_object, beyond_scalar, beyond_unnested, beyond_nested, beyond_value, beyond_text, opens_object, opens_array}
 use Rattle.bd_extjson_fault.proofs.PassingLemmas.{value_scalar}
-use Rattle.bd_extjson_fault.proofs.PlaceLemmas.{first_of, Fits, Gives, Passed, Always, stop_at, run_of, run_ends}
-use Rattle.bd_extjson_fault.proofs.PlaceStringLemmas.{name_firm}
-use Rattle.bd_extjson_fault.proofs.PlaceValueLemmas.{Next, after_part, next_of, Parts, Reads, parts_after, parts_on, parts_end, shorter, parts_white, group_parts, member_reads, is_letter, scalar_number, is_bracket, unnested_deep, unnested_flat, nested_flat, either_bracket, value_reads, last}
-use Rattle.bd_extjson_fault.proofs.GoOnLemmas.{plain, plain_nil, Starts, Ends, Goes, Completed, Completes, onward, instead, starts_past, starts_white, some_byte, begins_start, some_taken, then_completes, white_completes, word_completes, number_complete, no_fraction, no_exponent}
+use Rattle.bd_extjson_fault.proofs.OffsetLemmas.{first_of, Fits, Gives, Passed, Always, stop_at, run_of, run_ends}
+use Rattle.bd_extjson_fault.proofs.OffsetStringLemmas.{name_firm}
+use Rattle.bd_extjson_fault.proofs.OffsetValueLemmas.{Next, after_part, next_of, Parts, Reads, parts_after, parts_on, parts_end, shorter, parts_white, group_parts, member_reads, is_letter, scalar_number, is_bracket, unnested_deep, unnested_flat, nested_flat, either_bracket, value_reads, last}
+use Rattle.bd_extjson_fault.proofs.GoOnLemmas.{plain, plain_nil, Starts, Ends, Goes, Completed, Completes, onward, instead, starts_beyond, starts_white, some_byte, begins_start, some_taken, then_completes, white_completes, word_completes, number_complete, no_fraction, no_exponent}
 use Rattle.bd_extjson_fault.proofs.GoOnStringLemmas.{string_completes, name_completes, no_name}
 
 -- a closing bracket
@@ -69,11 +69,11 @@ close_fits closes close mid (b ∷ x) c (inr e) = let same : b ≡ close = cc in
 
 some_append : (item : List ℕ → Beyond) (Next : List ℕ → Type 0) (text rest more : List ℕ) (p : Passed (Gives item) (λ x. x) Next text rest)
     → item [] ≡ syntax_at [] → Next [] → ¬ (p.taken ++ more ≡ [])
-some_append item Next text rest more p none next e = some_taken item Next text rest p none next (front p.taken more e)
+some_append item Next text rest more p none next e = some_taken item Next text rest p none next (prefix p.taken more e)
   where
-    front : (x y : List ℕ) → x ++ y ≡ [] → x ≡ []
-    front [] y e = refl
-    front (b ∷ x) y e = absurd cc
+    prefix : (x y : List ℕ) → x ++ y ≡ [] → x ≡ []
+    prefix [] y e = refl
+    prefix (b ∷ x) y e = absurd cc
 
 -- a reader of parts, each of which can be completed
 pub record Fills (part : List ℕ → Beyond) (start : ℕ) : Type 0 where
@@ -89,7 +89,7 @@ parts_next closes close part start n text mid stop (Err s) c fills lt given is e
     let p = fills.reads.oks text mid given in
     let same : s ≡ stop = cc in
     onward (Gives (beyond_next closes)) (Parts closes part) closing (λ x. x) Always Always close start text p.taken mid [] stop p.split plain_nil (λ other next. tt)
-    (starts_past close start text p.taken mid p.split (some_taken part (Fits mid) text mid p fills.none (inr refl)))
+    (starts_beyond close start text p.taken mid p.split (some_taken part (Fits mid) text mid p fills.none (inr refl)))
     (λ x other s next h m lt. parts_end closes part (p.taken ++ x) x other false m lt (p.passes x (close_fits closes close mid x c s)) h refl)
     (next_completes closes close c mid stop (is ∙ ap Err same))
 parts_next closes close part start n text mid stop (Ok next) c fills lt given is e more = go next.0 refl e
@@ -104,7 +104,7 @@ parts_next closes close part start n text mid stop (Ok next) c fills lt given is
         let size : length text ≡ length (p.taken ++ (q.taken ++ next.1)) = ap length split in
         onward (Parts closes part) (Parts closes part) (λ x. x) (λ x. x) Always Always start start text (p.taken ++ q.taken) next.1 [] stop
         (split ∙ sym (append_assoc p.taken q.taken next.1)) plain_nil (λ other next. tt)
-        (starts_past start start text (p.taken ++ q.taken) next.1 (split ∙ sym (append_assoc p.taken q.taken next.1))
+        (starts_beyond start start text (p.taken ++ q.taken) next.1 (split ∙ sym (append_assoc p.taken q.taken next.1))
         (some_append part (Fits mid) text mid q.taken p fills.none (inr refl)))
         (λ x other s always h m lt. rw (append_assoc p.taken q.taken x)
         (parts_on closes part (p.taken ++ (q.taken ++ x)) (q.taken ++ x) x next.0 (Ok other) m (rw (append_assoc p.taken q.taken x) at lt)
@@ -194,11 +194,11 @@ array_completes level fills text stop e =
     group_by (λ b. b == 93) 93 (beyond_value level) 48 text stop (begins (λ b. b == 93) (beyond_white text)) bracket fills refl refl refl e
 
 -- an item after its first byte
-past_completes : (item : List ℕ → Beyond) (b : ℕ) (inner : List ℕ → Beyond) (start : ℕ) → Completes inner Always start → ((text : List ℕ) → item (b ∷ text) ≡ inner text)
+passing_completes : (item : List ℕ → Beyond) (b : ℕ) (inner : List ℕ → Beyond) (start : ℕ) → Completes inner Always start → ((text : List ℕ) → item (b ∷ text) ≡ inner text)
     → (text : List ℕ) (stop : Stop) → item (b ∷ text) ≡ Err stop → Completed (Gives item) (λ x. x) Ends 48 (b ∷ text) stop
-past_completes item b inner start completes is text stop e =
+passing_completes item b inner start completes is text stop e =
     onward (Gives inner) (Gives item) (λ x. x) (λ x. x) Always Ends start 48 (b ∷ text) (b ∷ []) text [] stop refl plain_nil (λ other end. tt)
-    (starts_past start 48 (b ∷ text) (b ∷ []) text refl (some_byte b [])) (λ x other s end h. is x ∙ h) (completes text stop (sym (is text) ∙ e))
+    (starts_beyond start 48 (b ∷ text) (b ∷ []) text refl (some_byte b [])) (λ x other s end h. is x ∙ h) (completes text stop (sym (is text) ∙ e))
 
 record Form (b : ℕ) : Type 0 where
   inner : List ℕ → Beyond
@@ -233,7 +233,7 @@ scalar_completes [] stop e =
 scalar_completes (b ∷ text) stop e = go (form_of b)
   where
     go : Form b ⊎ (is_letter b ≡ false) → Completed (Gives beyond_scalar) (λ x. x) Ends 48 (b ∷ text) stop
-    go (inl f) = past_completes beyond_scalar b f.inner f.start f.completes f.is text stop e
+    go (inl f) = passing_completes beyond_scalar b f.inner f.start f.completes f.is text stop e
     go (inr none) = onward (Gives beyond_number) (Gives beyond_scalar) (λ x. x) (λ x. x) Ends Ends 48 48 (b ∷ text) [] (b ∷ text) [] stop refl refl
         (λ other end. end) (λ x s. s) (λ x other s end h. scalar_number x (begins_start is_letter 48 (b ∷ text) x refl none s) ∙ h)
         (number_complete (b ∷ text) stop (sym (scalar_number (b ∷ text) none) ∙ e))
@@ -259,8 +259,8 @@ nested_completes level fills [] stop e = flat_completes (beyond_nested (beyond_v
 nested_completes level fills (b ∷ text) stop e = go (b == 123) refl (b == 91) refl
   where
     go : (x : Bool) → (b == 123) ≡ x → (y : Bool) → (b == 91) ≡ y → Completed (Gives (beyond_nested (beyond_value level))) (λ x. x) Ends 48 (b ∷ text) stop
-    go true o y a = past_completes (beyond_nested (beyond_value level)) b (beyond_object (beyond_value level)) 34 (object_completes level fills) (λ t. rw o refl) text stop e
-    go false o true a = past_completes (beyond_nested (beyond_value level)) b (beyond_array (beyond_value level)) 48 (array_completes level fills) (λ t. rw (o, a) refl) text stop e
+    go true o y a = passing_completes (beyond_nested (beyond_value level)) b (beyond_object (beyond_value level)) 34 (object_completes level fills) (λ t. rw o refl) text stop e
+    go false o true a = passing_completes (beyond_nested (beyond_value level)) b (beyond_array (beyond_value level)) 48 (array_completes level fills) (λ t. rw (o, a) refl) text stop e
     go false o false a = flat_completes (beyond_nested (beyond_value level)) (nested_flat (beyond_value level)) (b ∷ text) stop (either_bracket (b == 123) (b == 91) o a) e
 
 no_value : (level : ℕ) → beyond_value level [] ≡ syntax_at []
@@ -288,7 +288,7 @@ pub record Begins (text : List ℕ) (stop : Stop) : Type 0 where
   pub rest : List ℕ
   pub split : text ≡ before ++ rest
   pub remaining : stop.remaining ≡ length rest
-  pub goes : CutsSurrogate before ⊎ ((added : List ℕ) × (plain added ≡ true) × (beyond_text (before ++ added) ≡ Ok []))
+  pub goes : SplitsSurrogate before ⊎ ((added : List ℕ) × (plain added ≡ true) × (beyond_text (before ++ added) ≡ Ok []))
 
 no_white : beyond_white [] ≡ []
 unfolding beyond_all
@@ -336,9 +336,9 @@ trailing text rest stop given e =
 complete : (text : List ℕ) (stop : Stop) → Completed (Gives (beyond_value most_brackets)) (λ x. x) Ends 48 text stop → Begins text stop
 complete text stop c = record { before = c.before; rest = c.rest; split = c.split; remaining = c.remaining; goes = go c.goes }
   where
-    go : CutsSurrogate c.before ⊎ Goes (Gives (beyond_value most_brackets)) (λ x. x) Ends 48 text c.before
-        → CutsSurrogate c.before ⊎ ((added : List ℕ) × (plain added ≡ true) × (beyond_text (c.before ++ added) ≡ Ok []))
-    go (inl cut) = inl cut
+    go : SplitsSurrogate c.before ⊎ Goes (Gives (beyond_value most_brackets)) (λ x. x) Ends 48 text c.before
+        → SplitsSurrogate c.before ⊎ ((added : List ℕ) × (plain added ≡ true) × (beyond_text (c.before ++ added) ≡ Ok []))
+    go (inl splits) = inl splits
     go (inr g) =
         let given : beyond_value most_brackets (c.before ++ (g.added ++ [])) ≡ Ok [] = g.passes [] refl in
         inr (g.added, g.plainly, ap (λ x. beyond_text (c.before ++ x)) (sym (append-nil g.added)) ∙ whole (c.before ++ (g.added ++ [])) [] given no_white)

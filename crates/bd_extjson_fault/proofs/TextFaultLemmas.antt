@@ -34,6 +34,7 @@ pub of_bad_utf8 : (text : List ℕ) → ¬ (IsUtf8 text) → text_fault text ≡
 unfolding first_fault_in
 of_bad_utf8 text bad = rw (not_utf8 text bad) refl
 
+-- the fault of a text that is no JSON is where its grammar stops
 pub of_no_json : (text : List ℕ) (stop : Stop) → IsUtf8 text → beyond_text text ≡ Err stop → text_fault text ≡ stop_in (length text) stop
 unfolding first_fault_in
 of_no_json text stop utf8 e = rw (is_utf8-from_IsUtf8 text utf8, e) refl

@@ -12,10 +12,10 @@ use Rattle.bd_extjson_fault.specs.declared.skip.Stop.{Stop}
 use Rattle.bd_extjson_fault.specs.declared.skip.StopKind.{StopKind}
 use Rattle.bd_extjson_fault.specs.declared.skip.StopKind.TheVariants.{Syntax, TooDeep, TrailingText}
 use Rattle.bd_extjson_fault.specs.JsonSyntax.{Beyond, ◌>>=◌, syntax_at, begins, beyond_if, beyond_all, beyond_white, is_white, beyond_word, is_decimal, beyond_digits, beyond_natural, beyond_fraction, beyond_exponent, beyond_number, beyond_hex, beyond_unit, beyond_low, beyond_units, is_short_escape, beyond_escape, beyond_character, beyond_items, beyond_string, beyond_name, beyond_next, beyond_parts, beyond_group, beyond_array, beyond_member, beyond_object, beyond_scalar, beyond_unnested, beyond_nested, beyond_value, beyond_text}
-use Rattle.bd_extjson_fault.proofs.PlaceLemmas.{stop_at}
-use Rattle.bd_extjson_fault.proofs.PlaceNumberLemmas.{whole_part}
-use Rattle.bd_extjson_fault.proofs.PlaceStringLemmas.{Unit4, first, second, third, fourth, Answered, same_number, character_piece, is_quote, quoted, colon, named}
-use Rattle.bd_extjson_fault.proofs.PlaceValueLemmas.{Next, after_part, parts_after, is_bracket, unnested_deep, unnested_flat, nested_flat, either_bracket, last}
+use Rattle.bd_extjson_fault.proofs.OffsetLemmas.{stop_at}
+use Rattle.bd_extjson_fault.proofs.OffsetNumberLemmas.{whole_part}
+use Rattle.bd_extjson_fault.proofs.OffsetStringLemmas.{Unit4, first, second, third, fourth, Answered, same_number, character_piece, is_quote, quoted, colon, named}
+use Rattle.bd_extjson_fault.proofs.OffsetValueLemmas.{Next, after_part, parts_after, is_bracket, unnested_deep, unnested_flat, nested_flat, either_bracket, last}
 use Rattle.bd_extjson_fault.proofs.GoOnLemmas.{plain}
 
 -- the last byte is of ASCII; of no bytes, as the first argument says
@@ -62,21 +62,21 @@ pub record Before (d : Bool) (text : List ℕ) (stop : Stop) : Type 0 where
 
 -- where an item ends, or its fault is
 abbrev pub Ended : {A : Type 0} → (A → List ℕ) → Bool → List ℕ → Result A Stop → Type 0
-Ended left d text (Ok x) = Upto d text (left x)
-Ended left d text (Err stop) = Before d text stop
+Ended after_of d text (Ok x) = Upto d text (after_of x)
+Ended after_of d text (Err stop) = Before d text stop
 
 abbrev pub Same : List ℕ → List ℕ
 Same x = x
 
 -- after bytes that end in ASCII
-past : {A : Type 0} (left : A → List ℕ) (d : Bool) (text taken rest : List ℕ) (answer : Result A Stop) → text ≡ taken ++ rest → tail d taken ≡ true
-    → Ended left true rest answer → Ended left d text answer
-past left d text taken rest (Ok x) e ends u = record {
+tail_passed : {A : Type 0} (after_of : A → List ℕ) (d : Bool) (text taken rest : List ℕ) (answer : Result A Stop) → text ≡ taken ++ rest → tail d taken ≡ true
+    → Ended after_of true rest answer → Ended after_of d text answer
+tail_passed after_of d text taken rest (Ok x) e ends u = record {
   taken = taken ++ u.taken;
-  split = e ∙ ap (λ x. taken ++ x) u.split ∙ sym (append_assoc taken u.taken (left x));
+  split = e ∙ ap (λ x. taken ++ x) u.split ∙ sym (append_assoc taken u.taken (after_of x));
   ends = tail_append d taken u.taken ∙ ap (λ c. tail c u.taken) ends ∙ u.ends;
 }
-past left d text taken rest (Err stop) e ends b = record {
+tail_passed after_of d text taken rest (Err stop) e ends b = record {
   taken = taken ++ b.taken;
   rest = b.rest;
   split = e ∙ ap (λ x. taken ++ x) b.split ∙ sym (append_assoc taken b.taken b.rest);
@@ -89,14 +89,14 @@ past left d text taken rest (Err stop) e ends b = record {
     go (inr t) = inr (tail_append d taken b.taken ∙ ap (λ c. tail c b.taken) ends ∙ t)
 
 -- after any bytes
-past_any : {A : Type 0} (left : A → List ℕ) (d : Bool) (text taken rest : List ℕ) (answer : Result A Stop) → text ≡ taken ++ rest
-    → Ended left false rest answer → Ended left d text answer
-past_any left d text taken rest (Ok x) e u = record {
+passing_any : {A : Type 0} (after_of : A → List ℕ) (d : Bool) (text taken rest : List ℕ) (answer : Result A Stop) → text ≡ taken ++ rest
+    → Ended after_of false rest answer → Ended after_of d text answer
+passing_any after_of d text taken rest (Ok x) e u = record {
   taken = taken ++ u.taken;
-  split = e ∙ ap (λ x. taken ++ x) u.split ∙ sym (append_assoc taken u.taken (left x));
+  split = e ∙ ap (λ x. taken ++ x) u.split ∙ sym (append_assoc taken u.taken (after_of x));
   ends = tail_append d taken u.taken ∙ tail_any (tail d taken) u.taken u.ends;
 }
-past_any left d text taken rest (Err stop) e b = record {
+passing_any after_of d text taken rest (Err stop) e b = record {
   taken = taken ++ b.taken;
   rest = b.rest;
   split = e ∙ ap (λ x. taken ++ x) b.split ∙ sym (append_assoc taken b.taken b.rest);
@@ -121,10 +121,10 @@ at_small d text s = record { taken = []; rest = text; split = refl; remaining = 
 one : (d : Bool) (b : ℕ) (text : List ℕ) → nat_lt b 128 ≡ true → Upto d (b ∷ text) text
 one d b text e = record { taken = b ∷ []; split = refl; ends = tail_one d b ∙ e }
 
-after : {A B : Type 0} (left : A → List ℕ) (leaves : B → List ℕ) (d : Bool) (text : List ℕ) (g : A → Result B Stop) (answer : Result A Stop) → Ended left d text answer
-    → ((x : A) → Ended leaves true (left x) (g x)) → Ended leaves d text (answer >>= g)
-after left leaves d text g (Ok x) u next = past leaves d text u.taken (left x) (g x) u.split u.ends (next x)
-after left leaves d text g (Err stop) b next = b
+after : {A B : Type 0} (after_of : A → List ℕ) (leaves : B → List ℕ) (d : Bool) (text : List ℕ) (g : A → Result B Stop) (answer : Result A Stop) → Ended after_of d text answer
+    → ((x : A) → Ended leaves true (after_of x) (g x)) → Ended leaves d text (answer >>= g)
+after after_of leaves d text g (Ok x) u next = tail_passed leaves d text u.taken (after_of x) (g x) u.split u.ends (next x)
+after after_of leaves d text g (Err stop) b next = b
 
 -- the reader ends its item after a byte of ASCII, and so with its faults
 abbrev Ends : (List ℕ → Beyond) → Type 0
@@ -158,7 +158,7 @@ two_tests n m p q b e = go (b == n) refl (b == m) refl e
 
 run_by : (is : ℕ → Bool) (b : ℕ) (text : List ℕ) (x : Bool) → Tests is → is b ≡ x → Upto true text (beyond_all is text) → Upto true (b ∷ text) (beyond_all is (b ∷ text))
 unfolding beyond_all
-run_by is b text true tests e u = rw e (past Same true (b ∷ text) (b ∷ []) text (Ok (beyond_all is text)) refl (tail_one true b ∙ tests b e) u)
+run_by is b text true tests e u = rw e (tail_passed Same true (b ∷ text) (b ∷ []) text (Ok (beyond_all is text)) refl (tail_one true b ∙ tests b e) u)
 run_by is b text false tests e u = rw e (nothing (b ∷ text))
 
 run_upto : (is : ℕ → Bool) → Tests is → (text : List ℕ) → Upto true text (beyond_all is text)
@@ -166,18 +166,18 @@ unfolding beyond_all
 run_upto is tests [] = nothing []
 run_upto is tests (b ∷ text) = run_by is b text (is b) tests refl (run_upto is tests text)
 
-white_ends : {A : Type 0} (left : A → List ℕ) (item : List ℕ → Result A Stop) → ((text : List ℕ) → Ended left true text (item text))
-    → (text : List ℕ) → Ended left true text (item (beyond_white text))
-white_ends left item ends text =
+white_ends : {A : Type 0} (after_of : A → List ℕ) (item : List ℕ → Result A Stop) → ((text : List ℕ) → Ended after_of true text (item text))
+    → (text : List ℕ) → Ended after_of true text (item (beyond_white text))
+white_ends after_of item ends text =
     let u = run_upto is_white white_tests text in
-    past left true text u.taken (beyond_white text) (item (beyond_white text)) u.split u.ends (ends (beyond_white text))
+    tail_passed after_of true text u.taken (beyond_white text) (item (beyond_white text)) u.split u.ends (ends (beyond_white text))
 
 -- ---- words and numbers
 
 word_by : (c : ℕ) (word : List ℕ) (b : ℕ) (text : List ℕ) (x : Bool) → (b == c) ≡ x → nat_lt c 128 ≡ true → Ended Same true text (beyond_word word text)
     → Ended Same true (b ∷ text) (beyond_word (c ∷ word) (b ∷ text))
 unfolding beyond_word
-word_by c word b text true is low u = rw is (past Same true (b ∷ text) (b ∷ []) text (beyond_word word text) refl (tail_one true b ∙ ap (λ n. nat_lt n 128) (same_number b c is) ∙ low) u)
+word_by c word b text true is low u = rw is (tail_passed Same true (b ∷ text) (b ∷ []) text (beyond_word word text) refl (tail_one true b ∙ ap (λ n. nat_lt n 128) (same_number b c is) ∙ low) u)
 word_by c word b text false is low u = rw is (at_first (b ∷ text) Syntax)
 
 word_ends : (word : List ℕ) → plain word ≡ true → Ends (beyond_word word)
@@ -193,7 +193,7 @@ if_ends is item tests ends text = go text (begins is text) refl
   where
     go : (t : List ℕ) (x : Bool) → begins is t ≡ x → Ended Same true t (item (beyond_if is t))
     go [] true at = absurd cc
-    go (b ∷ t) true at = rw at (past Same true (b ∷ t) (b ∷ []) t (item t) refl (tail_one true b ∙ tests b at) (ends t))
+    go (b ∷ t) true at = rw at (tail_passed Same true (b ∷ t) (b ∷ []) t (item t) refl (tail_one true b ∙ tests b at) (ends t))
     go t false at = rw at (ends t)
 
 digits_end : Ends beyond_digits
@@ -218,7 +218,7 @@ optional_ends is item tests ends text = go text (begins is text) refl
   where
     go : (t : List ℕ) (x : Bool) → begins is t ≡ x → Ended Same true t (if begins is t then item (drop 1 t) else Ok t)
     go [] true at = absurd cc
-    go (b ∷ t) true at = rw at (past Same true (b ∷ t) (b ∷ []) t (item t) refl (tail_one true b ∙ tests b at) (ends t))
+    go (b ∷ t) true at = rw at (tail_passed Same true (b ∷ t) (b ∷ []) t (item t) refl (tail_one true b ∙ tests b at) (ends t))
     go t false at = rw at (nothing t)
 
 abbrev after_sign : List ℕ → Beyond
@@ -265,7 +265,7 @@ hex_before k next [] stop e = let same : stop_at Syntax [] ≡ stop = cc in befo
 hex_before k next (b ∷ text) stop e = go (is_digit b 16) refl e
   where
     go : (x : Bool) → is_digit b 16 ≡ x → (beyond_hex (b ∷ text) >>= k) ≡ Err stop → Before true (b ∷ text) stop
-    go true is e = past Same true (b ∷ text) (b ∷ []) text (Err stop) refl (tail_one true b ∙ hex_small b is) (next (digit_value b) text stop (rw is at e))
+    go true is e = tail_passed Same true (b ∷ text) (b ∷ []) text (Err stop) refl (tail_one true b ∙ hex_small b is) (next (digit_value b) text stop (rw is at e))
     go false is e =
         let f : ◌≡◌ {A = Result Unit4 Stop} (syntax_at (b ∷ text)) (Err stop) = rw is at e in
         let same : stop_at Syntax (b ∷ text) ≡ stop = cc in
@@ -313,13 +313,13 @@ units_before x stop e = go (beyond_hex x >>= first) refl e
     go : (answer : Result Unit4 Stop) → (beyond_hex x >>= first) ≡ answer → (answer >>= Answered (92 ∷ 117 ∷ x)) ≡ Err stop → Before false (92 ∷ 117 ∷ x) stop
     go (Err s) is e =
         let same : s ≡ stop = cc in
-        past Same false (92 ∷ 117 ∷ x) (92 ∷ 117 ∷ []) x (Err stop) refl refl (four_before x stop (is ∙ ap Err same))
+        tail_passed Same false (92 ∷ 117 ∷ x) (92 ∷ 117 ∷ []) x (Err stop) refl refl (four_before x stop (is ∙ ap Err same))
     go (Ok u) is e = answered_before (117 ∷ x) u stop (is_high_surrogate u.0) refl (is_low_surrogate u.0) refl e
 
 after_backslash : (b : ℕ) (rest : List ℕ) (stop : Stop) → (b == 92) ≡ true → ◌≡◌ {A = Beyond} (syntax_at rest) (Err stop) → Before false (b ∷ rest) stop
 after_backslash b rest stop is e =
     let same : stop_at Syntax rest ≡ stop = cc in
-    past Same false (b ∷ rest) (b ∷ []) rest (Err stop) refl (tail_one false b ∙ one_tests 92 (omega arith) b is) (before_same true rest (stop_at Syntax rest) stop same (at_first rest Syntax))
+    tail_passed Same false (b ∷ rest) (b ∷ []) rest (Err stop) refl (tail_one false b ∙ one_tests 92 (omega arith) b is) (before_same true rest (stop_at Syntax rest) stop same (at_first rest Syntax))
 
 escape_before : (b c : ℕ) (text : List ℕ) (stop : Stop) → (b == 92) ≡ true → (x : Bool) → (c == 117) ≡ x → (y : Bool) → is_short_escape c ≡ y
     → beyond_character (b ∷ c ∷ text) ≡ Err stop → Before false (b ∷ c ∷ text) stop
@@ -356,7 +356,7 @@ loop_step n text (Err s) le is more = character_before text s is
 loop_step n text (Ok mid) le is more =
     let p = character_piece text mid is in
     let size : length text ≡ suc (length (p.more ++ mid)) = ap length p.split in
-    past_any Same false text (p.first ∷ p.more) mid (beyond_items is_quote beyond_character n mid) p.split (more mid (omega (arith, le, size, length-append p.more mid)))
+    passing_any Same false text (p.first ∷ p.more) mid (beyond_items is_quote beyond_character n mid) p.split (more mid (omega (arith, le, size, length-append p.more mid)))
 
 loop_by : (n : ℕ) (text : List ℕ) (x : Bool) → length text ≤ suc n → begins is_quote text ≡ x → Loop n
     → Ended Same false text (beyond_items is_quote beyond_character (suc n) text)
@@ -373,7 +373,7 @@ loop_ends (suc n) text le = loop_by n text (begins is_quote text) le refl (loop_
 
 string_ends : Ends beyond_string
 unfolding beyond_string
-string_ends text = past_any Same true text [] text (beyond_items is_quote beyond_character (length text) text) refl (loop_ends (length text) text (le_refl (length text)))
+string_ends text = passing_any Same true text [] text (beyond_items is_quote beyond_character (length text) text) refl (loop_ends (length text) text (le_refl (length text)))
 
 quoted_ends : Ends quoted
 unfolding plain
@@ -431,7 +431,7 @@ group_ends closes part tests ends text = go (begins closes (beyond_white text)) 
     go : (x : Bool) → begins closes (beyond_white text) ≡ x → Ended Same true text (beyond_group closes part text)
     go true is =
         let u = run_upto is_white white_tests text in
-        rw is (past Same true text u.taken (beyond_white text) (Ok (drop 1 (beyond_white text))) u.split u.ends (close_upto closes (beyond_white text) tests is))
+        rw is (tail_passed Same true text u.taken (beyond_white text) (Ok (drop 1 (beyond_white text))) u.split u.ends (close_upto closes (beyond_white text) tests is))
     go false is = rw is (parts_end closes part (suc (length text)) tests ends text)
 
 object_ends : (value : List ℕ → Beyond) → Ends value → Ends (beyond_object value)
@@ -441,20 +441,20 @@ array_ends : (value : List ℕ → Beyond) → Ends value → Ends (beyond_array
 array_ends value ends = group_ends (λ b. b == 93) value (one_tests 93 (omega arith)) ends
 
 -- an item after its first byte
-past_ends : (item : List ℕ → Beyond) (b : ℕ) (inner : List ℕ → Beyond) → nat_lt b 128 ≡ true → Ends inner → ((text : List ℕ) → item (b ∷ text) ≡ inner text)
+passing_ends : (item : List ℕ → Beyond) (b : ℕ) (inner : List ℕ → Beyond) → nat_lt b 128 ≡ true → Ends inner → ((text : List ℕ) → item (b ∷ text) ≡ inner text)
     → (text : List ℕ) → Ended Same true (b ∷ text) (item (b ∷ text))
-past_ends item b inner low ends is text = rw (is text) (past Same true (b ∷ text) (b ∷ []) text (inner text) refl (tail_one true b ∙ low) (ends text))
+passing_ends item b inner low ends is text = rw (is text) (tail_passed Same true (b ∷ text) (b ∷ []) text (inner text) refl (tail_one true b ∙ low) (ends text))
 
 scalar_by : (b : ℕ) (text : List ℕ) (p : Bool) → (b == 34) ≡ p → (q : Bool) → (b == 116) ≡ q → (r : Bool) → (b == 102) ≡ r → (s : Bool) → (b == 110) ≡ s
     → Ended Same true (b ∷ text) (beyond_scalar (b ∷ text))
 unfolding beyond_scalar plain
-scalar_by b text true a q c r d s e = past_ends beyond_scalar b beyond_string (one_tests 34 (omega arith) b a) string_ends (λ t. rw a refl) text
+scalar_by b text true a q c r d s e = passing_ends beyond_scalar b beyond_string (one_tests 34 (omega arith) b a) string_ends (λ t. rw a refl) text
 scalar_by b text false a true c r d s e =
-    past_ends beyond_scalar b (beyond_word (codes "rue")) (one_tests 116 (omega arith) b c) (word_ends (codes "rue") refl) (λ t. rw (a, c) refl) text
+    passing_ends beyond_scalar b (beyond_word (codes "rue")) (one_tests 116 (omega arith) b c) (word_ends (codes "rue") refl) (λ t. rw (a, c) refl) text
 scalar_by b text false a false c true d s e =
-    past_ends beyond_scalar b (beyond_word (codes "alse")) (one_tests 102 (omega arith) b d) (word_ends (codes "alse") refl) (λ t. rw (a, c, d) refl) text
+    passing_ends beyond_scalar b (beyond_word (codes "alse")) (one_tests 102 (omega arith) b d) (word_ends (codes "alse") refl) (λ t. rw (a, c, d) refl) text
 scalar_by b text false a false c false d true e =
-    past_ends beyond_scalar b (beyond_word (codes "ull")) (one_tests 110 (omega arith) b e) (word_ends (codes "ull") refl) (λ t. rw (a, c, d, e) refl) text
+    passing_ends beyond_scalar b (beyond_word (codes "ull")) (one_tests 110 (omega arith) b e) (word_ends (codes "ull") refl) (λ t. rw (a, c, d, e) refl) text
 scalar_by b text false a false c false d false e = rw (a, c, d, e) (number_ends (b ∷ text))
 
 scalar_ends : Ends beyond_scalar
@@ -475,8 +475,8 @@ nested_ends value ends [] = rw (nested_flat value [] refl) (scalar_ends [])
 nested_ends value ends (b ∷ text) = go (b == 123) refl (b == 91) refl
   where
     go : (x : Bool) → (b == 123) ≡ x → (y : Bool) → (b == 91) ≡ y → Ended Same true (b ∷ text) (beyond_nested value (b ∷ text))
-    go true o y a = past_ends (beyond_nested value) b (beyond_object value) (one_tests 123 (omega arith) b o) (object_ends value ends) (λ t. rw o refl) text
-    go false o true a = past_ends (beyond_nested value) b (beyond_array value) (one_tests 91 (omega arith) b a) (array_ends value ends) (λ t. rw (o, a) refl) text
+    go true o y a = passing_ends (beyond_nested value) b (beyond_object value) (one_tests 123 (omega arith) b o) (object_ends value ends) (λ t. rw o refl) text
+    go false o true a = passing_ends (beyond_nested value) b (beyond_array value) (one_tests 91 (omega arith) b a) (array_ends value ends) (λ t. rw (o, a) refl) text
     go false o false a = rw (nested_flat value (b ∷ text) (either_bracket (b == 123) (b == 91) o a)) (scalar_ends (b ∷ text))
 
 value_ends : (level : ℕ) → Ends (beyond_value level)
@@ -499,8 +499,8 @@ last_before text stop e = go (length text == 0) refl e
 text_by : (text : List ℕ) (stop : Stop) (answer : Beyond) → Ended Same true text answer → (answer >>= λ rest. last (beyond_white rest)) ≡ Err stop → Before true text stop
 text_by text stop (Ok rest) u e =
     let w = run_upto is_white white_tests rest in
-    past Same true text u.taken rest (Err stop) u.split u.ends
-    (past Same true rest w.taken (beyond_white rest) (Err stop) w.split w.ends (last_before (beyond_white rest) stop e))
+    tail_passed Same true text u.taken rest (Err stop) u.split u.ends
+    (tail_passed Same true rest w.taken (beyond_white rest) (Err stop) w.split w.ends (last_before (beyond_white rest) stop e))
 text_by text stop (Err s) b e = let same : s ≡ stop = cc in before_same true text s stop same b
 
 text_before : (text : List ℕ) (stop : Stop) → beyond_text text ≡ Err stop → Before true text stop
@@ -525,9 +525,9 @@ one_utf8 : (b : ℕ) → nat_lt b 128 ≡ true → IsUtf8 (b ∷ [])
 unfolding plain
 one_utf8 b e = plain_utf8 (b ∷ []) (rw e refl)
 
--- a text may be cut before a byte of ASCII
-cut_utf8 : (before : List ℕ) (b : ℕ) (rest : List ℕ) → nat_lt b 128 ≡ true → IsUtf8 (before ++ (b ∷ rest)) → IsUtf8 before
-cut_utf8 before b rest e utf8 =
+-- a text may be split before a byte of ASCII
+prefix_is_utf8 : (before : List ℕ) (b : ℕ) (rest : List ℕ) → nat_lt b 128 ≡ true → IsUtf8 (before ++ (b ∷ rest)) → IsUtf8 before
+prefix_is_utf8 before b rest e utf8 =
     let at : get_or (before ++ (b ∷ rest)) (length before) 0 ≡ b = get_or-append_seam before b rest 0 in
     let low : b < 128 = low_byte b e in
     let boundary : IsCharBoundary (before ++ (b ∷ rest)) (length before) =
@@ -536,7 +536,7 @@ cut_utf8 before b rest e utf8 =
 
 -- the last of some bytes
 abbrev Last : List ℕ → Type 0
-Last text = (front : List ℕ) × (b : ℕ) × (text ≡ front ++ (b ∷ [])) × (nat_lt b 128 ≡ true)
+Last text = (prefix : List ℕ) × (b : ℕ) × (text ≡ prefix ++ (b ∷ [])) × (nat_lt b 128 ≡ true)
 
 tail_last : (d : Bool) (text : List ℕ) → tail d text ≡ true → ((text ≡ []) × (d ≡ true)) ⊎ Last text
 unfolding tail
@@ -547,17 +547,17 @@ tail_last d (b ∷ text) e = go (tail_last (nat_lt b 128) text e)
     go (inl h) = inr ([], b, ap (λ x. b ∷ x) h.0, h.1)
     go (inr h) = inr (b ∷ h.0, h.1, ap (λ x. b ∷ x) h.2, h.3)
 
-front_utf8 : (taken rest : List ℕ) → IsUtf8 (taken ++ rest) → (small rest ≡ true) ⊎ (tail true taken ≡ true) → IsUtf8 taken
-front_utf8 taken [] utf8 (inl s) = rw (sym (append-nil taken)) utf8
-front_utf8 taken (b ∷ rest) utf8 (inl s) = cut_utf8 taken b rest s utf8
-front_utf8 taken rest utf8 (inr t) = go (tail_last true taken t)
+of_prefix_utf8 : (taken rest : List ℕ) → IsUtf8 (taken ++ rest) → (small rest ≡ true) ⊎ (tail true taken ≡ true) → IsUtf8 taken
+of_prefix_utf8 taken [] utf8 (inl s) = rw (sym (append-nil taken)) utf8
+of_prefix_utf8 taken (b ∷ rest) utf8 (inl s) = prefix_is_utf8 taken b rest s utf8
+of_prefix_utf8 taken rest utf8 (inr t) = go (tail_last true taken t)
   where
     go : ((taken ≡ []) × (true ≡ true)) ⊎ Last taken → IsUtf8 taken
     go (inl h) = rw h.0 IsUtf8-nil
     go (inr h) =
         let whole : taken ++ rest ≡ h.0 ++ (h.1 ∷ rest) = ap (λ x. x ++ rest) h.2 ∙ append_assoc h.0 (h.1 ∷ []) rest in
         let all : IsUtf8 (h.0 ++ (h.1 ∷ rest)) = rw (sym whole) utf8 in
-        rw h.2 (IsUtf8-append h.0 (h.1 ∷ []) (cut_utf8 h.0 h.1 rest h.3 all) (one_utf8 h.1 h.3))
+        rw h.2 (IsUtf8-append h.0 (h.1 ∷ []) (prefix_is_utf8 h.0 h.1 rest h.3 all) (one_utf8 h.1 h.3))
 
 -- the bytes before the fault, as many as come before its rest
 pub before_utf8 : (text before rest : List ℕ) (stop : Stop) → IsUtf8 text → beyond_text text ≡ Err stop → text ≡ before ++ rest → stop.remaining ≡ length rest → IsUtf8 before
@@ -567,4 +567,4 @@ before_utf8 text before rest stop utf8 e split remaining =
     let size : length b.taken ≡ length before = omega (arith, sizes, remaining, b.remaining, length-append b.taken b.rest, length-append before rest) in
     let same : b.taken ≡ before =
     sym (take-append_seam b.taken b.rest) ∙ ap (λ x. take (length b.taken) x) (sym b.split ∙ split) ∙ ap (λ n. take n (before ++ rest)) size ∙ take-append_seam before rest in
-    rw (sym same) (front_utf8 b.taken b.rest (rw (sym b.split) utf8) b.ends)
+    rw (sym same) (of_prefix_utf8 b.taken b.rest (rw (sym b.split) utf8) b.ends)

@@ -1,4 +1,4 @@
-pub mod FaultPlace
+pub mod FaultOffset
 pub mod JsonFault
 pub mod JsonSyntax
 pub mod TextFault

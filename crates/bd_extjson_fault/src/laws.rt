@@ -5,7 +5,7 @@ ghost use Rattle.json.specs.Json.{Json, member, no_members};
 ghost use Rattle.json.specs.Word.{after_number};
 ghost use Rattle.bd_extjson_wrapper.specs.Wrapper.{single};
 ghost use Rattle.bd_extjson_wrapper.specs.declared.wrapper.Wrapper.{Wrapper};
-ghost use Rattle.bd_extjson_fault.specs.FaultPlace.{CannotContinue, CouldUntilThere, StaysWithMore};
+ghost use Rattle.bd_extjson_fault.specs.FaultOffset.{CannotContinue, CouldUntilThere, StaysWithMore};
 ghost use Rattle.bd_extjson_fault.specs.JsonFault.{IsLocated, ReportsBadUtf8};
 ghost use Rattle.bd_extjson_fault.specs.JsonSyntax.{beyond_number};
 ghost use Rattle.bd_extjson_fault.specs.TextFault.{text_fault};
@@ -23,15 +23,15 @@ pub fn fault_is_located()
 
 /// A text that is not JSON cannot continue at its fault. Whatever follows the text, the fault stays; and each text with the
 /// same bytes up to and with that of the fault has it too, unless an escape of a surrogate begins there.
-#[tactic(auto, using(crate::proofs::FaultPlaceLemmas::stays_with_more, crate::proofs::FaultPlaceLemmas::cannot_continue))]
+#[tactic(auto, using(crate::proofs::FaultOffsetLemmas::stays_with_more, crate::proofs::FaultOffsetLemmas::cannot_continue))]
 pub fn fault_is_not_early()
     ensures more { (text : List ℕ) → StaysWithMore text }
     ensures byte { (text : List ℕ) → CannotContinue text }
 {}
 
 /// Until its fault a text that is not JSON could continue: the bytes before it begin some text that is JSON. Only those that
-/// end within an escape of a surrogate may begin none, since a lone one is told at its backslash.
-#[tactic(auto, using(crate::proofs::FaultPlaceLemmas::could_until_there))]
+/// end within an escape of a surrogate may begin none, since a lone one is reported at its backslash.
+#[tactic(auto, using(crate::proofs::FaultOffsetLemmas::could_until_there))]
 pub fn fault_is_not_late()
     ensures { (text : List ℕ) → CouldUntilThere text }
 {}

@@ -72,7 +72,7 @@ pub fn diagnose(alloc: Global, text: &str) -> JsonFault
     }
 }
 
-/// The first fault of the tree of a text, or that it is not a document. The JSON is passed over first, which takes no memory.
+/// The first fault of the tree of a text, or that it is not a document. The JSON is skipped first, which takes no memory.
 fn pass_over(alloc: Global, text: &str) -> Result<Option<JsonFault>, Halt>
     ensures beyond { Passes result [] (beyond_text text.now) }
     ensures within { IfErr result (IsWithin (length text.now)) }

@@ -30,6 +30,7 @@ pub written-int64 : (old : List ℕ) (z : ℤ) → mag z < 2 ^ 63
 unfolding scalar_text quoted escape_byte
 written-int64 old z small = simp (append_assoc, escaped-signed_decimal z small)
 
+-- the text of binary data was written
 pub written-binary : (old bytes : List ℕ) (k : ℕ) → IsBytes bytes → IsBytes (k ∷ [])
     → ((((old ++ codes "{\"$binary\":{\"base64\":\"") ++ base64_text bytes) ++ codes "\",\"subType\":\"") ++ hex_text (k ∷ [])) ++ codes "\"}}" ≡ old ++ scalar_text (binary k bytes)
 unfolding scalar_text quoted escape_byte

@@ -1,4 +1,4 @@
--- Documents by value and class are documents by value, in which each number has a mark for its class.
+-- Documents by value and class are documents by value, in which each number has a tag for its class.
 use Rattle.std.proofs.Common.{◌≡◌, ℕ, ℤ, zero, suc, pos, negsuc, ◌≤◌, List, [], ◌∷◌, ◌++◌, length, drop, refl, sym, ap, ap₂, ◌∙◌, subst, arith, Bool, true, false, if◌then◌else◌, FitsSigned}
 use Rattle.std.specs.Int.{w32, w64, cast_unsigned}
 use Rattle.std.proofs.lemmas.{Int.ints}
@@ -78,7 +78,7 @@ module _ (f g h : Scalar → Scalar) (same : (s : Scalar) → g (f s) ≡ h s) w
   document_twice [] = refl
   document_twice (p ∷ ps) = ap₂ (λ (t : Tree) (qs : Doc). (p.0, t) ∷ qs) (coded_twice p.1) (document_twice ps)
 
--- ---- marks
+-- ---- tags
 
 abbrev pub twice : ℕ → ℕ
 twice zero = zero
@@ -110,10 +110,10 @@ odd_twice false zero = refl
 odd_twice true (suc n) = odd_twice true n
 odd_twice false (suc n) = odd_twice false n
 
--- a number with a mark
-abbrev pub mark : Bool → ℤ → ℤ
-mark b (pos n) = pos (bit b (twice n))
-mark b (negsuc n) = negsuc (bit b (twice n))
+-- a number with a tag
+abbrev pub tag : Bool → ℤ → ℤ
+tag b (pos n) = pos (bit b (twice n))
+tag b (negsuc n) = negsuc (bit b (twice n))
 
 abbrev pub unmarked : ℤ → ℤ
 unmarked (pos n) = pos (half n)
@@ -123,51 +123,51 @@ abbrev pub is_marked : ℤ → Bool
 is_marked (pos n) = odd n
 is_marked (negsuc n) = odd n
 
-number_kept : (b : Bool) (z : ℤ) → unmarked (mark b z) ≡ z
+number_kept : (b : Bool) (z : ℤ) → unmarked (tag b z) ≡ z
 number_kept b (pos n) = ap pos (half_twice b n)
 number_kept b (negsuc n) = ap negsuc (half_twice b n)
 
-mark_kept : (b : Bool) (z : ℤ) → is_marked (mark b z) ≡ b
-mark_kept b (pos n) = odd_twice b n
-mark_kept b (negsuc n) = odd_twice b n
+tag_kept : (b : Bool) (z : ℤ) → is_marked (tag b z) ≡ b
+tag_kept b (pos n) = odd_twice b n
+tag_kept b (negsuc n) = odd_twice b n
 
 abbrev pub whole : Bool → ℤ → Scalar
 whole b z = if b then int64 z else int32 z
 
 -- a marked number in its class, with another number in place of it
-abbrev pub in_mark : (ℤ → ℤ) → ℤ → Scalar
-in_mark code z = whole (is_marked z) (code (unmarked z))
+abbrev pub in_tag : (ℤ → ℤ) → ℤ → Scalar
+in_tag code z = whole (is_marked z) (code (unmarked z))
 
-in_mark_is : (code : ℤ → ℤ) (b : Bool) (z : ℤ) → in_mark code (mark b z) ≡ whole b (code z)
-in_mark_is code b z = ap₂ (λ (c : Bool) (x : ℤ). whole c (code x)) (mark_kept b z) (number_kept b z)
+in_tag_is : (code : ℤ → ℤ) (b : Bool) (z : ℤ) → in_tag code (tag b z) ≡ whole b (code z)
+in_tag_is code b z = ap₂ (λ (c : Bool) (x : ℤ). whole c (code x)) (tag_kept b z) (number_kept b z)
 
-abbrev pub to_mark : Scalar → Scalar
-to_mark (int32 z) = int64 (mark false z)
-to_mark (int64 z) = int64 (mark true z)
-to_mark s = s
+abbrev pub to_tag : Scalar → Scalar
+to_tag (int32 z) = int64 (tag false z)
+to_tag (int64 z) = int64 (tag true z)
+to_tag s = s
 
 module _ (longs : Longs) (worth : ElementType → List ℕ → ℤ) where
-  -- the worth of a number, with a mark for its class
+  -- the worth of a number, with a tag for its class
   abbrev pub marked : ElementType → List ℕ → ℤ
-  marked type value = mark (is_long longs type) (worth type value)
+  marked type value = tag (is_long longs type) (worth type value)
 
   written_number : (w : ElementType → List ℕ → ℤ) (x y z : ℤ) (value name : List ℕ) → IsNumber w x value
       → written_typed (leaf (int64 y)) name value ≡ written_typed (leaf (int64 z)) name value
   written_number w x y z value name n = ap (written_typed (leaf (int64 y)) name) n.typed ∙ sym (ap (written_typed (leaf (int64 z)) name) n.typed)
 
-  with_mark : (b : Bool) (z : ℤ) (value : List ℕ) (n : IsNumber worth z value) → is_long longs (number_type n.kind) ≡ b → IsNumber marked (mark b z) value
-  with_mark b z value n is = record { kind = n.kind; value = n.value; typed = n.typed; sized = n.sized; is_worth = ap₂ mark is n.is_worth }
+  with_tag : (b : Bool) (z : ℤ) (value : List ℕ) (n : IsNumber worth z value) → is_long longs (number_type n.kind) ≡ b → IsNumber marked (tag b z) value
+  with_tag b z value n is = record { kind = n.kind; value = n.value; typed = n.typed; sized = n.sized; is_worth = ap₂ tag is n.is_worth }
 
   leaf_marked : (a : Scalar) (value : List ℕ) → IsClassedScalar longs worth a value
-      → (valued marked).Spells (to_mark a) value × ((name : List ℕ) → written_classed (leaf a) name value ≡ written_typed (leaf (to_mark a)) name value)
-  leaf_marked (int32 z) value h = (with_mark false z value h.0 h.1, (λ name. written_number worth z z (mark false z) value name h.0))
-  leaf_marked (int64 z) value h = (with_mark true z value h.0 h.1, (λ name. written_number worth z z (mark true z) value name h.0))
+      → (valued marked).Spells (to_tag a) value × ((name : List ℕ) → written_classed (leaf a) name value ≡ written_typed (leaf (to_tag a)) name value)
+  leaf_marked (int32 z) value h = (with_tag false z value h.0 h.1, (λ name. written_number worth z z (tag false z) value name h.0))
+  leaf_marked (int64 z) value h = (with_tag true z value h.0 h.1, (λ name. written_number worth z z (tag true z) value name h.0))
   leaf_marked _ value h = (h, (λ name. refl))
 
-  pub document_marked : (d : Doc) (bytes : List ℕ) → IsDocumentBy (classed longs worth) d bytes → IsDocumentBy (valued marked) (coded_document to_mark d) bytes
-  document_marked = document_by (classed longs worth) (valued marked) to_mark leaf_marked (λ fs gs name value. refl) (λ ts us name value. refl) (λ s fs gs name value. refl)
+  pub document_marked : (d : Doc) (bytes : List ℕ) → IsDocumentBy (classed longs worth) d bytes → IsDocumentBy (valued marked) (coded_document to_tag d) bytes
+  document_marked = document_by (classed longs worth) (valued marked) to_tag leaf_marked (λ fs gs name value. refl) (λ ts us name value. refl) (λ s fs gs name value. refl)
 
-  -- a number by its mark
+  -- a number by its tag
   abbrev Unmarks : ℤ → List ℕ → Scalar → Type 0
   Unmarks z value s = IsClassedScalar longs worth s value × ((name : List ℕ) → written_typed (leaf (int64 z)) name value ≡ written_classed (leaf s) name value)
 
@@ -183,21 +183,21 @@ module _ (longs : Longs) (worth : ElementType → List ℕ → ℤ) where
   )
 
   leaf_unmarked : (a : Scalar) (value : List ℕ) → (valued marked).Spells a value
-      → IsClassedScalar longs worth (number_as (in_mark (λ z. z)) a) value
-      × ((name : List ℕ) → written_typed (leaf a) name value ≡ written_classed (leaf (number_as (in_mark (λ z. z)) a)) name value)
+      → IsClassedScalar longs worth (number_as (in_tag (λ z. z)) a) value
+      × ((name : List ℕ) → written_typed (leaf a) name value ≡ written_classed (leaf (number_as (in_tag (λ z. z)) a)) name value)
   leaf_unmarked (int32 z) value h = absurd h
   leaf_unmarked (int64 z) value n =
       let b : Bool = is_long longs (number_type n.kind) in
       let y : ℤ = worth (number_type n.kind) n.value in
-      subst (Unmarks z value) (sym (in_mark_is (λ z. z) b y) ∙ ap (in_mark (λ z. z)) n.is_worth) (number_unmarked z value n b refl)
+      subst (Unmarks z value) (sym (in_tag_is (λ z. z) b y) ∙ ap (in_tag (λ z. z)) n.is_worth) (number_unmarked z value n b refl)
   leaf_unmarked _ value h = (h, (λ name. refl))
 
-  joined_unmarked : (ds : List Doc) (bytes : List ℕ) → AreJoinedBy (valued marked) ds bytes → AreJoinedBy (classed longs worth) (coded_documents (number_as (in_mark (λ z. z))) ds) bytes
-  joined_unmarked = joined_by (valued marked) (classed longs worth) (number_as (in_mark (λ z. z))) leaf_unmarked (λ fs gs name value. refl) (λ ts us name value. refl) (λ s fs gs name value. refl)
+  joined_unmarked : (ds : List Doc) (bytes : List ℕ) → AreJoinedBy (valued marked) ds bytes → AreJoinedBy (classed longs worth) (coded_documents (number_as (in_tag (λ z. z))) ds) bytes
+  joined_unmarked = joined_by (valued marked) (classed longs worth) (number_as (in_tag (λ z. z))) leaf_unmarked (λ fs gs name value. refl) (λ ts us name value. refl) (λ s fs gs name value. refl)
 
   -- documents are some documents by value and class
   pub are_classed : (bytes : List ℕ) → AreDocuments bytes → (ds : List Doc) × AreJoinedBy (classed longs worth) ds bytes
-  are_classed bytes are = let m = are marked in (coded_documents (number_as (in_mark (λ z. z))) m.0, joined_unmarked m.0 bytes m.1)
+  are_classed bytes are = let m = are marked in (coded_documents (number_as (in_tag (λ z. z))) m.0, joined_unmarked m.0 bytes m.1)
 
   -- ---- without classes
 
@@ -239,11 +239,11 @@ document_numbers_widened (d ∷ ds) =
 -- ---- copies
 
 module _ (longs : Longs) (worth : ElementType → List ℕ → ℤ) (code : ℤ → ℤ) (fits : (z : ℤ) → FitsSigned w32 (code z)) where
-  -- what is written for a number by its class is written by its mark
-  same_written : (type : ElementType) (value : List ℕ) → in_class longs type (code (worth type value)) ≡ in_mark code (marked longs worth type value)
-  same_written type value = sym (in_mark_is code (is_long longs type) (worth type value))
+  -- what is written for a number by its class is written by its tag
+  same_written : (type : ElementType) (value : List ℕ) → in_class longs type (code (worth type value)) ≡ in_tag code (marked longs worth type value)
+  same_written type value = sym (in_tag_is code (is_long longs type) (worth type value))
 
-  rewritten : (bytes new : List ℕ) → IsRewritten (IsCodeIn longs worth code) bytes new → IsRewritten (IsCodeOf (marked longs worth) (in_mark code)) bytes new
+  rewritten : (bytes new : List ℕ) → IsRewritten (IsCodeIn longs worth code) bytes new → IsRewritten (IsCodeOf (marked longs worth) (in_tag code)) bytes new
   rewritten bytes new = subst (λ (W : Writes). IsRewritten W bytes new)
       (λ i. λ type head value out. out ≡ type_byte (scalar_kind (same_written type value i)) ∷ (drop 1 head ++ scalar_bytes (same_written type value i)))
 
@@ -268,23 +268,23 @@ module _ (longs : Longs) (worth : ElementType → List ℕ → ℤ) (code : ℤ 
   least_size as_int64 = omega arith
   least_size as_decimal128 = omega arith
 
-  no_longer : IsNoLonger (marked longs worth) (in_mark code)
+  no_longer : IsNoLonger (marked longs worth) (in_tag code)
   no_longer k value sized =
       subst (λ (s : Scalar). length (scalar_bytes s) ≤ length value) (same_written (number_type k) value)
       (four (is_long longs (number_type k)) (code (worth (number_type k) value)) (length value)
       (omega (arith, sized, least_size k)) (λ e. omega (arith, sized, class_size k e)))
 
-  class_coded : (s : Scalar) → number_as (in_mark code) (to_mark s) ≡ number_coded code s
-  class_coded (int32 z) = in_mark_is code false z
-  class_coded (int64 z) = in_mark_is code true z
+  class_coded : (s : Scalar) → number_as (in_tag code) (to_tag s) ≡ number_coded code s
+  class_coded (int32 z) = in_tag_is code false z
+  class_coded (int64 z) = in_tag_is code true z
   class_coded _ = refl
 
   -- the copy that the rewritten bytes are
   pub copied : (bytes new : List ℕ) → IsRewritten (IsCodeIn longs worth code) bytes new → IsCopy longs worth code bytes new
   copied bytes new h d is =
-      let spell : (z : ℤ) → CanSpell (in_mark code z) = λ z. can_spell (is_marked z) (code (unmarked z)) (fits (unmarked z)) in
+      let spell : (z : ℤ) → CanSpell (in_tag code z) = λ z. can_spell (is_marked z) (code (unmarked z)) (fits (unmarked z)) in
       let m = document_marked longs worth d bytes is in
       let w = rewritten bytes new h in
-      let short = copy_short (marked longs worth) (in_mark code) spell no_longer (coded_document to_mark d) bytes new m w in
-      let spelled = copy_spelled (marked longs worth) (in_mark code) spell (coded_document to_mark d) bytes new m w (omega (arith, short, is.short)) in
-      (subst (λ (x : Doc). IsDocument x new) (document_twice to_mark (number_as (in_mark code)) (number_coded code) class_coded d) spelled, short)
+      let short = copy_short (marked longs worth) (in_tag code) spell no_longer (coded_document to_tag d) bytes new m w in
+      let spelled = copy_spelled (marked longs worth) (in_tag code) spell (coded_document to_tag d) bytes new m w (omega (arith, short, is.short)) in
+      (subst (λ (x : Doc). IsDocument x new) (document_twice to_tag (number_as (in_tag code)) (number_coded code) class_coded d) spelled, short)

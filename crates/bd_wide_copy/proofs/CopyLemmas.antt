@@ -151,6 +151,7 @@ module _ (c : Scalar → Scalar) where
     same_items_depth no_items = refl
     same_items_depth (item t ts) = ap₂ max (same_depth t) (same_items_depth ts)
 
+  -- the fields of a document with codes are its fields with codes
   pub same_fields : (d : Doc) → coded_fields c (fields_of d) ≡ fields_of (coded_document c d)
   same_fields [] = refl
   same_fields (p ∷ ps) = ap (field p.0 (coded c p.1)) (same_fields ps)

@@ -1,4 +1,4 @@
--- Documents by value in which two classes of numbers are told apart by their types: those of one are int64, those of the other, with
+-- Documents by value in which two classes of numbers differ by their types: those of one are int64, those of the other, with
 -- int32, are int32.
 use Rattle.std.specs.Prelude.{◌≡◌, ℕ, ℤ, Bool, true, false, List, if◌then◌else◌}
 use Rattle.bd_value.specs.declared.node.Kind.TheVariants as kinds

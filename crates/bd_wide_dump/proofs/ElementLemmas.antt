@@ -84,6 +84,7 @@ module _ (name value : List ℕ) where
   written_leaf (trees.code s) h = plain (trees.code s) refl (λ f x t. t) refl h
   written_leaf trees.max_key h = plain trees.max_key refl (λ f x t. t) refl h
 
+  -- what was written of a value is its text
   unfoldable pub written_by : (t : Tree) → IsValueBy (valued raw) t value → Written t name value
   written_by (leaf a) h = written_leaf a h
   written_by (doc fs) h = record {

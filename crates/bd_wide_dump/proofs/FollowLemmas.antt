@@ -49,36 +49,36 @@ module _ (bytes : List ℕ) (start : ℕ) where
   -- ---- the element at an index
 
   abbrev pub ItemGoes : ℕ → ℕ → ℕ → Type 0
-  ItemGoes index left next = (e : HasElements (drop start bytes)) → (f : HasElements (drop next bytes)) × (item_at (values_in e.fields) index ≡ item_at (values_in f.fields) left)
+  ItemGoes index rest_count next = (e : HasElements (drop start bytes)) → (f : HasElements (drop next bytes)) × (item_at (values_in e.fields) index ≡ item_at (values_in f.fields) rest_count)
 
-  item_later : (t : Tree) (ts : Items) (left : ℕ) → 0 < left → item_at (item t ts) left ≡ item_at ts (left - 1)
+  item_later : (t : Tree) (ts : Items) (rest_count : ℕ) → 0 < rest_count → item_at (item t ts) rest_count ≡ item_at ts (rest_count - 1)
   item_later t ts zero some = absurd (omega (arith, some))
   item_later t ts (suc k) some = let e : suc k - 1 ≡ k = omega arith in ap (item_at ts) (sym e)
 
-  module _ (index left : ℕ) (n : List ℕ) (at begin next : ℕ) (type : ElementType) (so_far : ItemGoes index left at)
+  module _ (index rest_count : ℕ) (n : List ℕ) (at begin next : ℕ) (type : ElementType) (so_far : ItemGoes index rest_count at)
       (found : (f : HasElements (drop at bytes)) → IsElement bytes at f.fields type n begin next) where
     there : (e : HasElements (drop start bytes)) (f : HasElements (drop at bytes)) (x : IsElement bytes at f.fields type n begin next)
-        → item_at (values_in e.fields) index ≡ item_at (values_in f.fields) left → item_at (values_in e.fields) index ≡ item_at (item x.tree (values_in x.others)) left
-    there e f x is = is ∙ ap (λ (fs : Fields). item_at (values_in fs) left) x.is
+        → item_at (values_in e.fields) index ≡ item_at (values_in f.fields) rest_count → item_at (values_in e.fields) index ≡ item_at (item x.tree (values_in x.others)) rest_count
+    there e f x is = is ∙ ap (λ (fs : Fields). item_at (values_in fs) rest_count) x.is
 
-    pub item_other : 0 < left → ItemGoes index (left - 1) next
+    pub item_other : 0 < rest_count → ItemGoes index (rest_count - 1) next
     item_other some e =
         let f = so_far e in
         let x = found f.0 in
-        (x.rest, there e f.0 x f.1 ∙ item_later x.tree (values_in x.others) left some ∙ ap (λ (fs : Fields). item_at (values_in fs) (left - 1)) (sym x.rest_is))
+        (x.rest, there e f.0 x f.1 ∙ item_later x.tree (values_in x.others) rest_count some ∙ ap (λ (fs : Fields). item_at (values_in fs) (rest_count - 1)) (sym x.rest_is))
 
-    pub item_found : left ≡ 0 → (e : HasElements (drop start bytes)) → Finds bytes (item_at (values_in e.fields) index) (Some (record { typed = type; start = begin }))
-    item_found zero_left e =
+    pub item_found : rest_count ≡ 0 → (e : HasElements (drop start bytes)) → Finds bytes (item_at (values_in e.fields) index) (Some (record { typed = type; start = begin }))
+    item_found zero_remaining e =
         let f = so_far e in
         let x = found f.0 in
-        let is : item_at (values_in e.fields) index ≡ Some x.tree = there e f.0 x f.1 ∙ ap (item_at (item x.tree (values_in x.others))) zero_left in
+        let is : item_at (values_in e.fields) index ≡ Some x.tree = there e f.0 x f.1 ∙ ap (item_at (item x.tree (values_in x.others))) zero_remaining in
         subst (λ (o : Option Tree). Finds bytes o (Some (record { typed = type; start = begin }))) (sym is) (record { here = x.here; inside = x.inside })
 
-  pub no_item : (index left at : ℕ) → ItemGoes index left at → ((f : HasElements (drop at bytes)) → f.fields ≡ no_fields) → (e : HasElements (drop start bytes))
+  pub no_item : (index rest_count at : ℕ) → ItemGoes index rest_count at → ((f : HasElements (drop at bytes)) → f.fields ≡ no_fields) → (e : HasElements (drop start bytes))
       → Finds bytes (item_at (values_in e.fields) index) None
-  no_item index left at so_far none e =
+  no_item index rest_count at so_far none e =
       let f = so_far e in
-      subst (λ (o : Option Tree). Finds bytes o None) (sym (f.1 ∙ ap (λ (fs : Fields). item_at (values_in fs) left) (none f.0))) tt
+      subst (λ (o : Option Tree). Finds bytes o None) (sym (f.1 ∙ ap (λ (fs : Fields). item_at (values_in fs) rest_count) (none f.0))) tt
 
 -- ---- an index beyond every array
 

@@ -8,6 +8,7 @@ use Rattle.bd_extjson_text.proofs.BufferLemmas.{splits, rises, prefix}
 abbrev pub rest_of : {A : Type 0} → List A → List A
 rest_of xs = take (length xs - 1) (drop 1 xs)
 
+-- a list that is not empty is its first element and the others
 pub first_and_rest : {A : Type 0} (xs : List A) (d : A) → 1 ≤ length xs → xs ≡ get_or xs 0 d ∷ rest_of xs
 first_and_rest [] d some = absurd (omega (arith, some))
 first_and_rest (x ∷ xs) d some = ap (λ (ys : List _). x ∷ ys) (sym (take_all (length (x ∷ xs) - 1) xs (omega arith)))

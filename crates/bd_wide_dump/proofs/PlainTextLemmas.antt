@@ -80,15 +80,15 @@ no_whole kinds.Int32 h = absurd cc
 no_whole kinds.Int64 h = absurd cc
 no_whole _ h = refl
 
-module _ (kind : Kind) (bytes : List ℕ) (own : is_plain kind ≡ true) (fits : AreBytes bytes) where
+module _ (kind : Kind) (bytes : List ℕ) (is_kind_plain : is_plain kind ≡ true) (fits : AreBytes bytes) where
   pub plain_scalar : (tree : Tree) (v : HasValue (Kept kind) bytes tree) → (viewed : Tree) → ((s : Sound kind bytes) → viewed ≡ meaning s)
       → (s : Scalar) × (viewed ≡ leaf s) × (is_plain (scalar_kind s) ≡ true) × (tree ≡ leaf s)
   plain_scalar tree v viewed is =
-      let d = no_kind kind kinds.Doc refl own in
-      let a = no_kind kind kinds.Array refl own in
-      let c = no_kind kind kinds.CodeScope refl own in
+      let d = no_kind kind kinds.Doc refl is_kind_plain in
+      let a = no_kind kind kinds.Array refl is_kind_plain in
+      let c = no_kind kind kinds.CodeScope refl is_kind_plain in
       let p = plain_of kind bytes d a c fits tree v in
-      (p.scalar, plain_viewed kind bytes d a c fits viewed is tree v, ap is_plain p.kinded ∙ own, p.same (no_whole kind own))
+      (p.scalar, plain_viewed kind bytes d a c fits viewed is tree v, ap is_plain p.kinded ∙ is_kind_plain, p.same (no_whole kind is_kind_plain))
 
   pub plain_appended : {E : Type 0} (viewed : Tree) (old : List ℕ) (end : ℕ) (new : List ℕ) (r : Result ℕ E) → ((s : Sound kind bytes) → viewed ≡ meaning s)
       → ((s : Scalar) → viewed ≡ leaf s → IfOk r (λ e. AppendsBy (IsPlainText (leaf s)) old end e new)) → (tree : Tree) → HasValue (Kept kind) bytes tree

@@ -19,11 +19,11 @@ use Rattle.bd_wide_dump.specs.inside.Begins.{a_document, AppendsBy}
 use Rattle.bd_wide_dump.specs.inside.{Finds.Finds, Finds.IsAt}
 use Rattle.bd_wide_dump.proofs.GoingLemmas.{Going, finished, first_and_rest, rest_of}
 
--- what stands before a field
+-- what is before a field
 abbrev pub separator : Bool → List ℕ
 separator later = if later then 44 ∷ [] else []
 
--- the fields that are to come, by whether one stands before them
+-- the fields that are to come, by whether one is before them
 abbrev pub to_come : Bool → List (List ℕ) → List ℕ
 to_come true cells = fields_text default_writer cells
 to_come false cells = row_body default_writer cells
@@ -124,7 +124,7 @@ module _ (bytes : List ℕ) (paths : List Names) (old : List ℕ) (end : ℕ) wh
           behind = omega (arith, so_far.behind, after, last);
         }
 
-  -- what stands before the next field is written
+  -- what is before the next field is written
   pub row_led : (out m : List ℕ) (at begun : ℕ) (later : Bool) (rest : List Names) → RowGoes bytes paths old end out at later rest → take begun m ≡ take at out ++ separator later
       → (end ≤ begun) × (take end m ≡ take end old)
   row_led out m at begun later rest so_far led = (

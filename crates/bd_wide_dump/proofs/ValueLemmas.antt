@@ -42,9 +42,11 @@ same_number _ _ h = absurd cc
 abbrev pub IsWide : NumberKind → Type 0
 IsWide k = (kind : Kind) → number_type k ≡ Kept kind → ⊥
 
+-- double is a type of `bsonwide` alone
 pub double_is_wide : IsWide as_double
 double_is_wide kind h = cc
 
+-- decimal128 is a type of `bsonwide` alone
 pub decimal128_is_wide : IsWide as_decimal128
 decimal128_is_wide kind h = cc
 
@@ -202,6 +204,7 @@ module _ (kind : Kind) (bytes : List ℕ) (d : kind ≡ kinds.Doc → ⊥) (a : 
   pub plain_of : (tree : Tree) (v : HasValue (Kept kind) bytes tree) → Plain kind v.content tree
   plain_of tree v = plain_there kind v.content tree d a c (content_bytes bytes v.content v.after fits v.splits) v.spells
 
+  -- The value of this kind that the bytes spell is sound.
   abbrev pub sound_here : (tree : Tree) → HasValue (Kept kind) bytes tree → Sound kind bytes
   sound_here tree v = let p = plain_of tree v in
       record {

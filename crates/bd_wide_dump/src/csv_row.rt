@@ -162,7 +162,7 @@ fn needs_quotes(field: &[u8]) -> bool
 {
     let mut rest = field;
     while let [byte, others @ ..] = rest {
-        if is_mark(*byte) {
+        if is_quotation(*byte) {
             return true;
         }
         rest = others;
@@ -171,7 +171,7 @@ fn needs_quotes(field: &[u8]) -> bool
 }
 
 /// Whether a field with this byte has to be in quotation marks.
-fn is_mark(byte: u8) -> bool
+fn is_quotation(byte: u8) -> bool
     ensures { result ≡ needs_byte default_writer byte }
 {
     byte == b',' || byte == b'"' || byte == b'\r' || byte == b'\n'

@@ -77,16 +77,16 @@ fn find_item(index: usize, bytes: &[u8], start: usize) -> Option<Found>
     ensures { (e : HasElements (drop start bytes.now)) →
         Finds bytes.now (item_at (values_in e.fields) index) result }
 {
-    let mut left = index;
+    let mut rest_count = index;
     let mut next = start;
     while let Some(element) = element_at(bytes, next) {
-        if left == 0 {
+        if rest_count == 0 {
             return Some(Found {
                 typed: element.typed,
                 start: element.start,
             });
         }
-        left -= 1;
+        rest_count -= 1;
         next = element.next;
     }
     None

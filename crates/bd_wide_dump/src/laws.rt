@@ -17,7 +17,7 @@ ghost use Rattle.bd_wide_dump.specs.Raw.{raw};
 ghost use Rattle.bd_wide_dump.specs.RelaxedDate.{IsDateText};
 ghost use Rattle.bd_wide_dump.specs.WideText.{AreBytes, IsLineOf};
 ghost use Rattle.bd_wide_dump.specs.declared.format.JsonFormat.TheVariants.{Canonical};
-ghost use Rattle.bd_wide_dump.specs.declared.pretty.Place.TheVariants.{Outside};
+ghost use Rattle.bd_wide_dump.specs.declared.pretty.Position.TheVariants.{Outside};
 
 /// Numbers of different types or bits are different whole numbers.
 pub fn numbers_differ()

@@ -8,12 +8,12 @@ use bd_extjson_text::{End, append_few};
 
 /// Where a byte of a text of JSON is: RFC 8259, section 7.
 #[derive(Debug, Clone, Copy, Drop, PartialEq)]
-pub(crate) enum Place {
+pub(crate) enum Position {
     /// In no string.
     Outside,
     /// In a string.
     Inside,
-    /// In a string, behind a reverse solidus.
+    /// In a string, after a reverse solidus.
     Escape,
 }
 
@@ -26,23 +26,23 @@ pub fn append_pretty(text: &[u8], buffer: &mut Vec<u8>, end: usize) -> End
     ensures { Appends buffer.old.items end result buffer.new.items (indented text.now) }
 {
     let mut at = end;
-    let mut place = Place::Outside;
+    let mut position = Position::Outside;
     let mut level = 0;
     let mut before = 0;
     let mut rest = text;
     while let [byte, others @ ..] = rest {
-        at = append_laid(place, level, before, *byte, buffer, at)?;
-        level = open_after(place, level, *byte);
-        place = next_place(place, *byte);
+        at = append_laid(position, level, before, *byte, buffer, at)?;
+        level = open_after(position, level, *byte);
+        position = next_place(position, *byte);
         before = *byte;
         rest = others;
     }
     Ok(at)
 }
 
-/// Appends a byte with what stands before it.
+/// Appends a byte with what is before it.
 fn append_laid(
-    place: Place,
+    position: Position,
     level: usize,
     before: u8,
     byte: u8,
@@ -50,10 +50,11 @@ fn append_laid(
     end: usize,
 ) -> End
     requires { end ≤ length out.old.items }
-    ensures { Appends out.old.items end result out.new.items (laid_byte place level before byte) }
+    ensures { Appends out.old.items end result out.new.items
+        (laid_byte position level before byte) }
 {
-    match place {
-        Place::Outside => {
+    match position {
+        Position::Outside => {
             let at = append_gap(level, before, byte, out, end)?;
             append_few(&[byte], out, at)
         }
@@ -61,7 +62,7 @@ fn append_laid(
     }
 }
 
-/// Appends what stands between two bytes outside of strings.
+/// Appends what is between two bytes outside of strings.
 fn append_gap(level: usize, before: u8, after: u8, out: &mut Vec<u8>, end: usize) -> End
     requires { end ≤ length out.old.items }
     ensures { Appends out.old.items end result out.new.items (gap level before after) }
@@ -88,10 +89,10 @@ fn append_line_end(tabs: usize, out: &mut Vec<u8>, end: usize) -> End
     ensures { Appends out.old.items end result out.new.items (line_end tabs) }
 {
     let mut at = append_few(b"\n", out, end)?;
-    let mut left = tabs;
-    while left > 0 {
+    let mut rest_count = tabs;
+    while rest_count > 0 {
         at = append_few(b"\t", out, at)?;
-        left -= 1;
+        rest_count -= 1;
     }
     Ok(at)
 }
@@ -111,26 +112,26 @@ fn closes(byte: u8) -> bool
 }
 
 /// Where the next byte is.
-fn next_place(place: Place, byte: u8) -> Place
-    ensures { result ≡ next_place place byte }
+fn next_place(position: Position, byte: u8) -> Position
+    ensures { result ≡ next_place position byte }
 {
-    match place {
-        Place::Outside if byte == b'"' => Place::Inside,
-        Place::Outside => Place::Outside,
-        Place::Inside if byte == b'"' => Place::Outside,
-        Place::Inside if byte == b'\\' => Place::Escape,
-        Place::Inside | Place::Escape => Place::Inside,
+    match position {
+        Position::Outside if byte == b'"' => Position::Inside,
+        Position::Outside => Position::Outside,
+        Position::Inside if byte == b'"' => Position::Outside,
+        Position::Inside if byte == b'\\' => Position::Escape,
+        Position::Inside | Position::Escape => Position::Inside,
     }
 }
 
 /// How many brackets are level after a byte.
-fn open_after(place: Place, level: usize, byte: u8) -> usize
+fn open_after(position: Position, level: usize, byte: u8) -> usize
     requires { level < 18446744073709551615 }
-    ensures { result ≡ open_after place level byte }
+    ensures { result ≡ open_after position level byte }
 {
-    match place {
-        Place::Outside if opens(byte) => level + 1,
-        Place::Outside if closes(byte) => level.saturating_sub(1),
+    match position {
+        Position::Outside if opens(byte) => level + 1,
+        Position::Outside if closes(byte) => level.saturating_sub(1),
         _ => level,
     }
 }

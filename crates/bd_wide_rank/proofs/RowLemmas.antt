@@ -21,6 +21,7 @@ same_default (x ∷ xs) (suc k) c d l = same_default xs k c d (omega arith)
 
 -- ---- doubles
 
+-- keys that increase are in order
 pub keys_up : (keys : List ℕ) → IsStrictlyIncreasing keys → (i j : ℕ) → i ≤ j → j < length keys → get_or keys i 0 ≤ get_or keys j 0
 keys_up keys up i j l h = ⊎_elim
     (λ (g : i < j). let r : get_or keys i 0 < get_or keys j 0 = AllPairs-from_increasing keys up i j 0 g h in omega arith)
@@ -31,6 +32,7 @@ module _ (keys : List ℕ) (are : All IsKey keys) (up : IsStrictlyIncreasing key
   pub keys_row : Rises key_worth keys
   keys_row = λ i j d l h. keys_rise _ _ (are i d (omega arith)) (are j d h) (AllPairs-from_increasing keys up i j d l h)
 
+  -- the rank of a key that is in a row
   pub double_found : (key i : ℕ) → i < length keys → get_or keys i 0 ≡ key → rank (key_worths keys) (key_worth key) ≡ 2 * i + 1
   double_found key i l e = found_rank key_worth (key_worth key) keys i l keys_row (λ d. ap key_worth (same_default keys i d 0 l ∙ e))
 

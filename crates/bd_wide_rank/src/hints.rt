@@ -9,13 +9,13 @@ use std::alloc::Global;
 #[derive(Drop)]
 pub(crate) struct Hints {
     /// The place of a key is in one of `TRIES` slots, from its own on.
-    places: Vec<u32>,
+    indexes: Vec<u32>,
 }
 
 /// No place: the slot is free.
 const FREE: u32 = u32::MAX;
 
-/// So many slots are tried for a key.
+/// How many slots are tried for a key.
 const TRIES: usize = 16;
 
 /// 2 ^ 64 over the golden ratio: products with it are far apart.
@@ -31,7 +31,7 @@ impl Hints {
     /// No guesses.
     pub(crate) fn new(alloc: Global) -> Hints {
         Hints {
-            places: Vec::new(alloc),
+            indexes: Vec::new(alloc),
         }
     }
 
@@ -39,39 +39,39 @@ impl Hints {
     pub(crate) fn find(&self, keys: &[u64], key: u64) -> Option<usize>
         ensures { IfSome result (λ i. (i < length keys.now) × HoldsAt (λ k. k ≡ key) keys.now i) }
     {
-        let start = slot(key, self.places.len());
+        let start = slot(key, self.indexes.len());
         for tried in 0..TRIES {
-            let place = *self.places.get(start.saturating_add(tried))?;
-            let found = *keys.get(place as usize)?;
+            let index = *self.indexes.get(start.saturating_add(tried))?;
+            let found = *keys.get(index as usize)?;
             if found == key {
-                return Some(place as usize);
+                return Some(index as usize);
             }
         }
         None
     }
 
-    /// Notes the places of the keys of a row anew. If memory runs out, there are no guesses.
+    /// Notes the places of the keys of a row again. If memory runs out, there are no guesses.
     pub(crate) fn renew(&mut self, keys: &[u64]) {
-        self.places.clear();
+        self.indexes.clear();
         let slots = keys.len().saturating_mul(2);
-        if self.places.resize(slots, FREE).is_err() {
+        if self.indexes.resize(slots, FREE).is_err() {
             return;
         }
-        for place in 0..keys.len() {
-            self.note(keys[place], place);
+        for index in 0..keys.len() {
+            self.note(keys[index], index);
         }
     }
 
     /// Notes the place of a key, if a slot for it is free.
-    fn note(&mut self, key: u64, place: usize) {
-        let start = slot(key, self.places.len());
+    fn note(&mut self, key: u64, index: usize) {
+        let start = slot(key, self.indexes.len());
         for tried in 0..TRIES {
             let at = start.saturating_add(tried);
-            if at >= self.places.len() {
+            if at >= self.indexes.len() {
                 return;
             }
-            if self.places[at] == FREE {
-                self.places[at] = place.min(FREE as usize) as u32;
+            if self.indexes[at] == FREE {
+                self.indexes[at] = index.min(FREE as usize) as u32;
                 return;
             }
         }

@@ -46,9 +46,9 @@ seconds_of text = do
   second ← two_at 17 text
   time_number hour minute second
 
--- a date and a time are there, by their length and the marks between their parts
-abbrev pub has_marks : List ℕ → Bool
-has_marks text = nat_le 19 (length text) && (slice_index text 4 == 45 && (slice_index text 7 == 45
+-- a date and a time are there, by their length and the separators between their parts
+abbrev pub has_separators : List ℕ → Bool
+has_separators text = nat_le 19 (length text) && (slice_index text 4 == 45 && (slice_index text 7 == 45
     && (slice_index text 10 == 84 && (slice_index text 13 == 58 && slice_index text 16 == 58))))
 
 -- the value of the digit at a place, 0 after the last
@@ -97,7 +97,7 @@ abbrev pub milliseconds : ℤ → ℕ → ℕ → ℤ → ℤ
 milliseconds day seconds thousandths offset =
     ((day *ℤ pos 86400 +ℤ pos seconds) -ℤ offset *ℤ pos 60) *ℤ pos 1000 +ℤ pos thousandths
 
--- the date of a text with these marks
+-- the date of a text with these separators
 abbrev pub marked_date : List ℕ → Option ℤ
 marked_date text = do
   day ← day_of text
@@ -108,4 +108,4 @@ marked_date text = do
 
 -- the milliseconds since 1970 began that a text means
 abbrev pub date_of : List ℕ → Option ℤ
-date_of text = if has_marks text then marked_date text else None
+date_of text = if has_separators text then marked_date text else None

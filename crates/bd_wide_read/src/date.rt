@@ -3,7 +3,7 @@
 ghost use Rattle.std.specs.Prelude.{◌≡◌, ◌≤◌, ◌<◌, ◌+◌, ◌==◌, ℤ, pos, ◌+ℤ◌, ◌-ℤ◌, ◌*ℤ◌, IfSome, length, option_map};
 ghost use Rattle.std.specs.{Char.is_ascii_digit, List.AllPass, List.list_all};
 ghost use Rattle.jiff_core.specs.Calendar.{IsEpochDay, IsWithin};
-ghost use Rattle.bd_wide_read.specs.DateText.{date_of, day_number as day_number_of, day_of, digit_at as digit_at_of, fraction_of, has_marks as has_marks_of, marked_date as marked_date_of, milliseconds as milliseconds_of, minutes_at as minutes_at_of, minutes_of, offset_of, seconds_of, thousandths_of, two_at as two_at_of, two_digits as two_digits_of};
+ghost use Rattle.bd_wide_read.specs.DateText.{date_of, day_number as day_number_of, day_of, digit_at as digit_at_of, fraction_of, has_separators as has_separators_of, marked_date as marked_date_of, milliseconds as milliseconds_of, minutes_at as minutes_at_of, minutes_of, offset_of, seconds_of, thousandths_of, two_at as two_at_of, two_digits as two_digits_of};
 
 use crate::json_number::after_digits;
 use jiff_core::civil::Date;
@@ -13,16 +13,16 @@ use jiff_core::civil::Date;
 pub fn read_date(text: &[u8]) -> Option<i64>
     ensures { result ≡ date_of text.now }
 {
-    if has_marks(text) {
+    if has_separators(text) {
         marked_date(text)
     } else {
         None
     }
 }
 
-/// Whether a date and a time are there, by their length and the marks between their parts.
-fn has_marks(text: &[u8]) -> bool
-    ensures value { result ≡ has_marks_of text.now }
+/// Whether a date and a time are there, by their length and the separators between their parts.
+fn has_separators(text: &[u8]) -> bool
+    ensures value { result ≡ has_separators_of text.now }
 {
     text.len() >= 19
         && text[4] == b'-'
@@ -32,7 +32,7 @@ fn has_marks(text: &[u8]) -> bool
         && text[16] == b':'
 }
 
-/// The date of a text with these marks.
+/// The date of a text with these separators.
 fn marked_date(text: &[u8]) -> Option<i64>
     requires { 19 ≤ length text.now }
     ensures { result ≡ marked_date_of text.now }

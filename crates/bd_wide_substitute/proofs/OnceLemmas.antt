@@ -192,9 +192,9 @@ none_empty (value bytes n) rest some is h = no_empty_number bytes n rest is h
 -- an empty piece moves no byte
 empty_first : (qs : List Piece) (at : ℕ) → origin (same [] ∷ qs) at ≡ origin qs at
 empty_first qs at =
-    let past : nat_lt at 0 ≡ false = lt-leb (suc at) 0 (omega arith) in
-    let left : at - 0 ≡ at = omega arith in
-    rw (past, left) (omega arith)
+    let is_beyond : nat_lt at 0 ≡ false = lt-leb (suc at) 0 (omega arith) in
+    let rest_count : at - 0 ≡ at = omega arith in
+    rw (is_beyond, rest_count) (omega arith)
 
 -- nothing becomes nothing
 pub empty_origin : (qs : List Piece) (at : ℕ) → ArePieces [] qs → origin qs at ≡ 0

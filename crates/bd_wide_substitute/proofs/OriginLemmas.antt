@@ -23,8 +23,8 @@ use Rattle.bd_wide_substitute.proofs.OnceLemmas.{after_one, empty_origin}
 origin_in : (p : Piece) (ps : List Piece) (at : ℕ) → at < length (filled whole p) → origin (p ∷ ps) at ≡ byte_within p at
 origin_in p ps at h = let in_it : nat_lt at (length (filled whole p)) ≡ true = le-leb (suc at) (length (filled whole p)) (omega (arith, h)) in rw in_it refl
 
-origin_past : (p : Piece) (ps : List Piece) (at : ℕ) → length (filled whole p) ≤ at → origin (p ∷ ps) at ≡ length (original p) + origin ps (at - length (filled whole p))
-origin_past p ps at h = let past : nat_lt at (length (filled whole p)) ≡ false = lt-leb (suc at) (length (filled whole p)) (omega (arith, h)) in rw past refl
+origin_beyond : (p : Piece) (ps : List Piece) (at : ℕ) → length (filled whole p) ≤ at → origin (p ∷ ps) at ≡ length (original p) + origin ps (at - length (filled whole p))
+origin_beyond p ps at h = let is_beyond : nat_lt at (length (filled whole p)) ≡ false = lt-leb (suc at) (length (filled whole p)) (omega (arith, h)) in rw is_beyond refl
 
 -- ---- the pieces from a byte on
 
@@ -40,50 +40,50 @@ piece_bytes rest n (Some x) (same first) is = absurd is
 not_empty : (p : Piece) (n : ℕ) → length (original p) ≡ n → 1 ≤ n → p ≡ same [] → ⊥
 not_empty p n long some e = let none : length (original p) ≡ 0 = ap (λ q. length (original q)) e in omega (arith, long, some, none)
 
-module _ (line : List ℕ) (at : ℕ) (rest : List ℕ) (left n : ℕ) (found : Option WideValue) (h : IsReached line at rest left) (f : IsFound rest n found) where
+module _ (line : List ℕ) (at : ℕ) (rest : List ℕ) (rest_count n : ℕ) (found : Option WideValue) (h : IsReached line at rest rest_count) (f : IsFound rest n found) where
   first_bytes : original f.piece ≡ take n rest
   first_bytes = piece_bytes rest n found f.piece f.is
 
   first_long : length (original f.piece) ≡ n
   first_long = omega (arith, ap length first_bytes, length-take n rest, f.within)
 
-  pieces_on : (pieces : List Piece) → ArePieces line pieces → (rs : List Piece) × ArePieces (drop n rest) rs × (origin pieces at + length rest ≡ length line + origin (f.piece ∷ rs) left)
+  pieces_on : (pieces : List Piece) → ArePieces line pieces → (rs : List Piece) × ArePieces (drop n rest) rs × (origin pieces at + length rest ≡ length line + origin (f.piece ∷ rs) rest_count)
   pieces_on pieces are =
       let r = h.reached pieces are in
       let split : rest ≡ original f.piece ++ drop n rest = sym (take-append-drop n rest) ∙ ap (λ t. t ++ drop n rest) (sym first_bytes) in
       let o = after_one f.piece (drop n rest) rest (not_empty f.piece n first_long f.some) split f.before r.0 r.1 in
-      (o.0, o.1, r.2 ∙ ap (λ k. length line + k) (o.2 left))
+      (o.0, o.1, r.2 ∙ ap (λ k. length line + k) (o.2 rest_count))
 
-  -- past a piece
-  pub reached_past : (m : ℕ) → length (filled whole f.piece) ≡ m → m ≤ left → IsReached line at (drop n rest) (left - m)
-  reached_past m size past =
+  -- beyond a piece
+  pub reached_beyond : (m : ℕ) → length (filled whole f.piece) ≡ m → m ≤ rest_count → IsReached line at (drop n rest) (rest_count - m)
+  reached_beyond m size is_beyond =
       let shorter : length (take n rest) + length (drop n rest) ≡ length rest = sym (length-append (take n rest) (drop n rest)) ∙ ap length (take-append-drop n rest) in
       let taken : length (take n rest) ≡ n = omega (arith, length-take n rest, f.within) in
       record {
         within = omega (arith, h.within, shorter);
         reached = λ pieces are.
             let r = pieces_on pieces are in
-            let e = origin_past f.piece r.0 left (omega (arith, size, past)) ∙ ap (λ k. length (original f.piece) + origin r.0 (left - k)) size in
+            let e = origin_beyond f.piece r.0 rest_count (omega (arith, size, is_beyond)) ∙ ap (λ k. length (original f.piece) + origin r.0 (rest_count - k)) size in
             (r.0, r.1, omega (arith, r.2, e, first_long, shorter, taken));
       }
 
   -- inside a piece
-  pub reached_in : (m b : ℕ) → length (filled whole f.piece) ≡ m → left < m → byte_within f.piece left ≡ b → (pieces : List Piece) → ArePieces line pieces → length line - length rest + b ≡ origin pieces at
+  pub reached_in : (m b : ℕ) → length (filled whole f.piece) ≡ m → rest_count < m → byte_within f.piece rest_count ≡ b → (pieces : List Piece) → ArePieces line pieces → length line - length rest + b ≡ origin pieces at
   reached_in m b size less is pieces are =
       let r = pieces_on pieces are in
-      let e = origin_in f.piece r.0 left (omega (arith, size, less)) in
+      let e = origin_in f.piece r.0 rest_count (omega (arith, size, less)) in
       omega (arith, r.2, e, is, h.within)
 
   -- as a whole at the first byte of a piece
-  pub reached_first : (m : ℕ) → length (filled whole f.piece) ≡ m → left < m → byte_within f.piece left ≡ 0 → (pieces : List Piece) → ArePieces line pieces → length line - length rest ≡ origin pieces at
+  pub reached_first : (m : ℕ) → length (filled whole f.piece) ≡ m → rest_count < m → byte_within f.piece rest_count ≡ 0 → (pieces : List Piece) → ArePieces line pieces → length line - length rest ≡ origin pieces at
   reached_first m size less is pieces are = let e = reached_in m 0 size less is pieces are in omega (arith, e)
 
 -- nothing remains
-pub reached_end : (line : List ℕ) (at : ℕ) (rest : List ℕ) (left : ℕ) → IsReached line at rest left → length rest < 1 → (pieces : List Piece) → ArePieces line pieces → length line ≡ origin pieces at
-reached_end line at [] left h less pieces are =
+pub reached_end : (line : List ℕ) (at : ℕ) (rest : List ℕ) (rest_count : ℕ) → IsReached line at rest rest_count → length rest < 1 → (pieces : List Piece) → ArePieces line pieces → length line ≡ origin pieces at
+reached_end line at [] rest_count h less pieces are =
     let r = h.reached pieces are in
-    omega (arith, r.2, empty_origin r.0 left r.1)
-reached_end line at (c ∷ cs) left h less pieces are = absurd (omega arith)
+    omega (arith, r.2, empty_origin r.0 rest_count r.1)
+reached_end line at (c ∷ cs) rest_count h less pieces are = absurd (omega arith)
 
 -- ---- a text without values
 
@@ -94,10 +94,10 @@ same_byte (same bytes ∷ ps) source at h are none =
     elim (nat_lt at (length bytes)) as (λ b. nat_lt at (length bytes) ≡ b → origin (same bytes ∷ ps) at ≡ at) [
       | true ↦ λ e. origin_in (same bytes) ps at (leb-true (suc at) (length bytes) e)
       | false ↦ λ e.
-          let past : length bytes ≤ at = (let k = leb-false (suc at) (length bytes) e in omega (arith, k)) in
+          let is_beyond : length bytes ≤ at = (let k = leb-false (suc at) (length bytes) e in omega (arith, k)) in
           let long : length source ≡ length bytes + length are.0 = ap length are.1 ∙ length-append bytes are.0 in
-          let rest = same_byte ps are.0 (at - length bytes) (omega (arith, long, h, past)) are.3 none in
-          origin_past (same bytes) ps at past ∙ omega (arith, rest, past)
+          let rest = same_byte ps are.0 (at - length bytes) (omega (arith, long, h, is_beyond)) are.3 none in
+          origin_beyond (same bytes) ps at is_beyond ∙ omega (arith, rest, is_beyond)
     ] refl
 
 -- ---- how many bytes a piece becomes

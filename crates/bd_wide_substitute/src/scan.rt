@@ -231,15 +231,15 @@ pub(crate) fn origin(line: &[u8], at: u64) -> u64
     ensures { (pieces : List Piece) → ArePieces line.now pieces → result ≡ origin_of pieces at }
 {
     let mut rest = line;
-    let mut left = at as usize;
+    let mut rest_count = at as usize;
     while let [first, ..] = rest {
         let found = next_piece(*first, rest);
-        let place = line.len() - rest.len();
+        let line_offset = line.len() - rest.len();
         match canonical_count(found) {
-            Some(count) if left < count => return place as u64,
-            Some(count) => left -= count,
-            None if left < found.count => return (place + left) as u64,
-            None => left -= found.count,
+            Some(count) if rest_count < count => return line_offset as u64,
+            Some(count) => rest_count -= count,
+            None if rest_count < found.count => return (line_offset + rest_count) as u64,
+            None => rest_count -= found.count,
         }
         let (_, after) = rest.split_at(found.count);
         rest = after;

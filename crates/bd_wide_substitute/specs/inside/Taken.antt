@@ -35,7 +35,7 @@ IsCount None n piece = (length (filled whole piece) ≡ n) × ((at : ℕ) → by
 IsCount (Some m) n piece = (length (filled whole piece) ≡ m) × ((at : ℕ) → byte_within piece at ≡ 0)
 
 -- Whatever pieces the line is, the rest is some of them; and in what they become, a byte is this many bytes after the rest begins.
-pub record IsReached (line : List ℕ) (at : ℕ) (rest : List ℕ) (left : ℕ) : Type 0 where
+pub record IsReached (line : List ℕ) (at : ℕ) (rest : List ℕ) (rest_count : ℕ) : Type 0 where
   pub within : length rest ≤ length line
   pub reached : (pieces : List Piece) → ArePieces line pieces → (others : List Piece) × ArePieces rest others
-      × (origin pieces at + length rest ≡ length line + origin others left)
+      × (origin pieces at + length rest ≡ length line + origin others rest_count)

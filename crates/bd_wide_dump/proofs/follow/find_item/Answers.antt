@@ -8,11 +8,11 @@ loop-element-init c = λ e. (e, refl)
 pub element_at-requires-clause-elements : goal.element_at-requires-clause-elements
 element_at-requires-clause-elements c = (c.loop-element.invariant c.requires.elements).0
 
-pub returns-then-left-eq0 : goal.returns-then-left-eq0
-returns-then-left-eq0 c =
+pub returns-then-rest_count-eq0 : goal.returns-then-rest_count-eq0
+returns-then-rest_count-eq0 c =
     let x = c.in-Some.element in
     let i = c.loop-element in
-    f.item_found c.args.bytes.now c.args.start c.args.index i.left x.name.now i.next x.start x.next x.typed i.invariant c.in-Some.ensures.some c.if-left-eq0.true
+    f.item_found c.args.bytes.now c.args.start c.args.index i.rest_count x.name.now i.next x.start x.next x.typed i.invariant c.in-Some.ensures.some c.if-rest_count-eq0.true
 
 pub loop-element-smaller : goal.loop-element-smaller
 loop-element-smaller c =
@@ -23,7 +23,7 @@ pub loop-element-preserved : goal.loop-element-preserved
 loop-element-preserved c =
     let x = c.in-Some.element in
     let i = c.loop-element in
-    f.item_other c.args.bytes.now c.args.start c.args.index i.left x.name.now i.next x.start x.next x.typed i.invariant c.in-Some.ensures.some (omega (arith, c.if-left-eq0.false))
+    f.item_other c.args.bytes.now c.args.start c.args.index i.rest_count x.name.now i.next x.start x.next x.typed i.invariant c.in-Some.ensures.some (omega (arith, c.if-rest_count-eq0.false))
 
 pub returns : goal.returns
-returns c = f.no_item c.args.bytes.now c.args.start c.args.index c.loop-element.left c.loop-element.next c.loop-element.invariant c.in_default.ensures.none
+returns c = f.no_item c.args.bytes.now c.args.start c.args.index c.loop-element.rest_count c.loop-element.next c.loop-element.invariant c.in_default.ensures.none

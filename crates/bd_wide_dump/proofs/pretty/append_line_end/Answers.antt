@@ -6,17 +6,17 @@ use Rattle.bd_wide_dump.proofs.pretty.append_line_end.Goals as goal
 
 pub returns-in_err-at-2 : goal.returns-in_err-at-2
 returns-in_err-at-2 c =
-    let i = c.loop-left in
+    let i = c.loop-rest_count in
     let old = c.args.out.now.items in
     let whole = line_end c.args.tabs in
-    failed c.args.end old c.append_few-in-loop-left.new.out.items whole c.from_residual-in_err-at-2.result c.from_residual-in_err-at-2.ensures.0
-    (g.stopped old c.args.end whole i.out.items c.append_few-in-loop-left.new.out.items _ i.at i.invariant c.in_err-at-2.ensures.text)
+    failed c.args.end old c.append_few-in-loop-rest_count.new.out.items whole c.from_residual-in_err-at-2.result c.from_residual-in_err-at-2.ensures.0
+    (g.stopped old c.args.end whole i.out.items c.append_few-in-loop-rest_count.new.out.items _ i.at i.invariant c.in_err-at-2.ensures.text)
 
-pub loop-left-preserved : goal.loop-left-preserved
-loop-left-preserved c =
-    let i = c.loop-left in
+pub loop-rest_count-preserved : goal.loop-rest_count-preserved
+loop-rest_count-preserved c =
+    let i = c.loop-rest_count in
     let old = c.args.out.now.items in
     let whole = line_end c.args.tabs in
     let P : List ℕ → Type 0 = λ x. g.Going old c.args.end whole i.out.items i.at x in
-    let so_far = subst P (g.replicate_step i.left 9 c.loop-left-test.true) i.invariant in
-    g.goes_on old c.args.end whole i.out.items c.append_few-in-loop-left.new.out.items _ _ i.at c.in_ok-at-2.at so_far c.in_ok-at-2.ensures.text.0 c.in_ok-at-2.ensures.text.1
+    let so_far = subst P (g.replicate_step i.rest_count 9 c.loop-rest_count-test.true) i.invariant in
+    g.goes_on old c.args.end whole i.out.items c.append_few-in-loop-rest_count.new.out.items _ _ i.at c.in_ok-at-2.at so_far c.in_ok-at-2.ensures.text.0 c.in_ok-at-2.ensures.text.1

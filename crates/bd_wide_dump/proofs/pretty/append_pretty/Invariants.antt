@@ -5,7 +5,7 @@ use Rattle.bd_wide_dump.proofs.pretty.append_pretty.Given as goal
 
 abbrev pub invariant-loop-rest : goal.invariant-loop-rest
 invariant-loop-rest l = record {
-  going : Going l.fn.buffer.items l.end (indented l.text) l.buffer.items l.at (laid_out l.place l.level l.before l.rest);
+  going : Going l.fn.buffer.items l.end (indented l.text) l.buffer.items l.at (laid_out l.position l.level l.before l.rest);
   level : l.level + length l.rest ≤ length l.text;
 }
 

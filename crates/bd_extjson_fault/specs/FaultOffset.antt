@@ -30,11 +30,11 @@ abbrev pub IsPartOfSurrogates : List ℕ → Type 0
 IsPartOfSurrogates bytes = ((begins_ud 12 16 bytes ≡ true) × (length bytes < 6)) ⊎ ((begins_ud 8 12 bytes ≡ true) × (6 ≤ length bytes) × (length bytes < 12))
 
 -- the bytes end with such a part
-abbrev pub CutsSurrogate : List ℕ → Type 0
-CutsSurrogate bytes = (front : List ℕ) × (escape : List ℕ) × (bytes ≡ front ++ escape) × IsPartOfSurrogates escape
+abbrev pub SplitsSurrogate : List ℕ → Type 0
+SplitsSurrogate bytes = (prefix : List ℕ) × (escape : List ℕ) × (bytes ≡ prefix ++ escape) × IsPartOfSurrogates escape
 
 -- UTF-8 that is not JSON, with its fault before its end: a byte that cannot continue, a bracket beyond level 203, or a byte
--- after the value. A text whose fault is at its end may go on in any way.
+-- after the value. A text whose fault is at its end may continue in any way.
 abbrev pub StopsInside : List ℕ → Type 0
 StopsInside text = IsUtf8 text × ¬ (IsJson text) × ((text_fault text).at < length text)
 
@@ -54,6 +54,6 @@ abbrev pub BeginsJson : List ℕ → Type 0
 BeginsJson bytes = (rest : List ℕ) × IsJson (bytes ++ rest)
 
 -- Until its fault a text could continue: the bytes before it begin some text that is JSON. Only those that end with a part of
--- an escape of surrogates may begin none, since a lone surrogate is told once its escape is whole, and at its backslash.
+-- an escape of surrogates may begin none, since a lone surrogate is reported once its escape is whole, and at its backslash.
 abbrev pub CouldUntilThere : List ℕ → Type 0
-CouldUntilThere text = IsUtf8 text → ¬ (IsJson text) → CutsSurrogate (take (text_fault text).at text) ⊎ BeginsJson (take (text_fault text).at text)
+CouldUntilThere text = IsUtf8 text → ¬ (IsJson text) → SplitsSurrogate (take (text_fault text).at text) ⊎ BeginsJson (take (text_fault text).at text)

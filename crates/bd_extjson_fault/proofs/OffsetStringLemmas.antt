@@ -6,9 +6,9 @@ use Rattle.std.proofs.lemmas.{Bool.Decides.nat_tests}
 use Rattle.json.specs.Text.{is_high_surrogate, is_low_surrogate}
 use Rattle.bd_extjson_fault.specs.declared.skip.Stop.{Stop}
 use Rattle.bd_extjson_fault.specs.declared.skip.StopKind.TheVariants.{Syntax}
-use Rattle.bd_extjson_fault.specs.FaultPlace.{begins_surrogate}
+use Rattle.bd_extjson_fault.specs.FaultOffset.{begins_surrogate}
 use Rattle.bd_extjson_fault.specs.JsonSyntax.{Beyond, ◌>>=◌, syntax_at, begins, beyond_white, beyond_word, beyond_hex, beyond_unit, beyond_low, beyond_units, is_short_escape, beyond_escape, beyond_character, beyond_items, beyond_string, beyond_name}
-use Rattle.bd_extjson_fault.proofs.PlaceLemmas.{begins_same, Gives, Decided, Passed, Piece, Pieces, Always, Firms, Errs, lift, there, here, at_end, stop_at, loose, bind_ok, then_errs, then_piece, firm_piece, white_errs, white_firm, word_errs, word_firm, word_piece, word_split}
+use Rattle.bd_extjson_fault.proofs.OffsetLemmas.{begins_same, Gives, Decided, Passed, Piece, Pieces, Always, Firms, Errs, lift, there, here, at_end, stop_at, loose, bind_ok, then_errs, then_piece, firm_piece, white_errs, white_firm, word_errs, word_firm, word_piece, word_split}
 
 -- ---- escapes
 
@@ -379,6 +379,7 @@ items_ok closes item (suc n) text rest passes e = items_ok_by closes item n text
 
 -- ---- strings and names
 
+-- whether a byte is a quotation mark
 abbrev pub is_quote : ℕ → Bool
 is_quote b = b == 34
 
@@ -397,12 +398,15 @@ string_firm text rest e =
     let p = items_ok is_quote beyond_character (length text) text rest character_piece e in
     record { taken = p.taken; split = p.split; passes = λ other always. p.passes other tt (length (p.taken ++ other)) (le_refl (length (p.taken ++ other))) }
 
+-- a string with its quotation marks
 abbrev pub quoted : List ℕ → Beyond
 quoted text = beyond_word (codes "\"") text >>= beyond_string
 
+-- a colon, with white space around it
 abbrev pub colon : List ℕ → Beyond
 colon text = beyond_word (codes ":") (beyond_white text)
 
+-- a name and what follows it
 abbrev pub named : List ℕ → Beyond
 named text = quoted text >>= colon
 
@@ -422,6 +426,7 @@ pub name_errs : Errs beyond_name
 unfolding beyond_name
 name_errs = white_errs named (then_errs quoted colon quoted_errs (loose quoted (firm_piece quoted quoted_piece)) colon_errs)
 
+-- a name with its colon is firm
 pub name_firm : Firms beyond_name
 unfolding beyond_name
 name_firm = white_firm named (then_piece quoted colon quoted_piece colon_firm)

@@ -2,7 +2,7 @@
 use Rattle.std.proofs.Common.{◌≡◌, ◌==◌, ◌∙◌, ◌++◌, sym, refl, ◌||◌, if◌then◌else◌, ℕ, Bool, true, false, List, [], ◌∷◌, drop, ap, Ok, Err}
 use Rattle.bd_extjson_fault.specs.declared.skip.StopKind.TheVariants.{Syntax}
 use Rattle.bd_extjson_fault.specs.JsonSyntax.{Beyond, ◌>>=◌, begins, beyond_all, beyond_if, is_decimal, beyond_digits, beyond_natural, beyond_fraction, beyond_exponent, beyond_number}
-use Rattle.bd_extjson_fault.proofs.PlaceLemmas.{begins_same, begins_fits, Fits, fits_past, Gives, Decided, Passed, lift, here, at_end, Errs, Oks, then_errs, then_oks, run_of, run_ends}
+use Rattle.bd_extjson_fault.proofs.OffsetLemmas.{begins_same, begins_fits, Fits, fits_beyond, Gives, Decided, Passed, lift, here, at_end, Errs, Oks, then_errs, then_oks, run_of, run_ends}
 
 -- an optional byte before an item
 pub if_errs : (is : ℕ → Bool) (item : List ℕ → Beyond) → Errs item → Errs (λ x. item (beyond_if is x))
@@ -29,7 +29,7 @@ if_oks is item bracket brace passes text rest e = go text (begins is text) refl 
         record {
           taken = p.taken;
           split = p.split;
-          passes = λ other fits. rw (begins_fits is t (p.taken ++ other) bracket brace (fits_past t p.taken rest other p.split fits) at) (p.passes other fits);
+          passes = λ other fits. rw (begins_fits is t (p.taken ++ other) bracket brace (fits_beyond t p.taken rest other p.split fits) at) (p.passes other fits);
         }
 
 digits_errs : Errs beyond_digits
@@ -85,7 +85,7 @@ natural_oks text rest e = go text (begins (λ b. b == 48) text) refl e
           taken = p.taken;
           split = p.split;
           passes = λ other fits.
-              rw (begins_fits (λ b. b == 48) t (p.taken ++ other) refl refl (fits_past t p.taken rest other p.split fits) is) (p.passes other fits);
+              rw (begins_fits (λ b. b == 48) t (p.taken ++ other) refl refl (fits_beyond t p.taken rest other p.split fits) is) (p.passes other fits);
         }
 
 -- an item after a byte, if that byte comes first
@@ -132,6 +132,7 @@ exponent_oks : Oks beyond_exponent
 unfolding beyond_exponent
 exponent_oks = optional_oks (λ b. b == 101 || b == 69) after_sign refl refl (if_oks (λ b. b == 43 || b == 45) beyond_digits refl refl digits_oks)
 
+-- a number up to its fraction
 abbrev pub whole_part : List ℕ → Beyond
 whole_part text = beyond_natural (beyond_if (λ b. b == 45) text)
 

@@ -6,18 +6,20 @@ use Rattle.bd_value.specs.Limits.{most_brackets}
 use Rattle.bd_extjson_fault.specs.declared.skip.Stop.{Stop}
 use Rattle.bd_extjson_fault.specs.declared.skip.StopKind.TheVariants.{Syntax, TooDeep, TrailingText}
 use Rattle.bd_extjson_fault.specs.JsonSyntax.{Beyond, ◌>>=◌, begins, beyond_white, is_white, beyond_word, beyond_string, beyond_digits, beyond_natural, beyond_number, beyond_name, beyond_next, beyond_parts, beyond_group, beyond_array, beyond_member, beyond_object, beyond_scalar, beyond_unnested, beyond_nested, beyond_value, beyond_text}
-use Rattle.bd_extjson_fault.proofs.PlaceLemmas.{first_of, begins_same, same_taken, Fits, begins_fits, fits_past, Gives, Decided, Passed, Piece, Always, Firms, Errs, Oks, lift, here, at_end, stop_at, loose, bind_ok, then_errs, then_oks, white_errs, white_oks, white_twice, Run, run_of, run_ends, word_errs, word_firm, word_split}
-use Rattle.bd_extjson_fault.proofs.PlaceNumberLemmas.{number_errs, number_oks}
-use Rattle.bd_extjson_fault.proofs.PlaceStringLemmas.{string_errs, string_firm, name_errs, name_firm}
+use Rattle.bd_extjson_fault.proofs.OffsetLemmas.{first_of, begins_same, same_taken, Fits, begins_fits, fits_beyond, Gives, Decided, Passed, Piece, Always, Firms, Errs, Oks, lift, here, at_end, stop_at, loose, bind_ok, then_errs, then_oks, white_errs, white_oks, white_twice, Run, run_of, run_ends, word_errs, word_firm, word_split}
+use Rattle.bd_extjson_fault.proofs.OffsetNumberLemmas.{number_errs, number_oks}
+use Rattle.bd_extjson_fault.proofs.OffsetStringLemmas.{string_errs, string_firm, name_errs, name_firm}
 
 -- ---- after a part
 
+-- what follows a part of an array or of an object: another part, or the end
 abbrev pub Next : Type 0
 Next = Bool × List ℕ
 
 abbrev pub comma : List ℕ → Result Next Stop
 comma text = beyond_word (codes ",") text >>= λ rest. Ok (true, rest)
 
+-- what follows a part, by which byte is the closing bracket
 abbrev pub after_part : (ℕ → Bool) → List ℕ → Result Next Stop
 after_part closes text = if begins closes text then Ok (false, drop 1 text) else comma text
 
@@ -66,12 +68,12 @@ pub record NextOf (closes : ℕ → Bool) (text : List ℕ) (next : Bool × List
   pub begun : (x y : List ℕ) → first_of (taken ++ x) ≡ first_of (taken ++ y)
   pub passes : (other : List ℕ) → beyond_next closes (taken ++ other) ≡ Ok (next.0, other)
 
-begun_past : (taken : List ℕ) (first : ℕ) (more x y : List ℕ) → first_of ((taken ++ (first ∷ more)) ++ x) ≡ first_of ((taken ++ (first ∷ more)) ++ y)
-begun_past [] first more x y = refl
-begun_past (b ∷ taken) first more x y = refl
+begun_beyond : (taken : List ℕ) (first : ℕ) (more x y : List ℕ) → first_of ((taken ++ (first ∷ more)) ++ x) ≡ first_of ((taken ++ (first ∷ more)) ++ y)
+begun_beyond [] first more x y = refl
+begun_beyond (b ∷ taken) first more x y = refl
 
-some_past : (taken : List ℕ) (first : ℕ) (more : List ℕ) → 0 < length (taken ++ (first ∷ more))
-some_past taken first more = omega (arith, length-append taken (first ∷ more))
+some_beyond : (taken : List ℕ) (first : ℕ) (more : List ℕ) → 0 < length (taken ++ (first ∷ more))
+some_beyond taken first more = omega (arith, length-append taken (first ∷ more))
 
 pub next_of : (closes : ℕ → Bool) (text : List ℕ) (next : Next) → beyond_next closes text ≡ Ok next → NextOf closes text next
 unfolding beyond_next
@@ -82,8 +84,8 @@ next_of closes text next e =
     record {
       taken = r.taken ++ (p.first ∷ p.more);
       split = r.split ∙ ap (λ x. r.taken ++ x) p.split ∙ sym (append_assoc r.taken (p.first ∷ p.more) next.1);
-      some = some_past r.taken p.first p.more;
-      begun = λ x y. begun_past r.taken p.first p.more x y;
+      some = some_beyond r.taken p.first p.more;
+      begun = λ x y. begun_beyond r.taken p.first p.more x y;
       passes = λ other. rw (append_assoc r.taken (p.first ∷ p.more) other, r.passes (p.first ∷ (p.more ++ other)) none) (p.passes other);
     }
 
@@ -99,6 +101,7 @@ pub record Reads (part : List ℕ → Beyond) : Type 0 where
   pub oks : (text rest : List ℕ) → part text ≡ Ok rest → Passed (Gives part) (λ x. x) (Fits rest) text rest
   pub white : (text : List ℕ) → part (beyond_white text) ≡ part text
 
+-- the parts that follow one part
 abbrev pub parts_after : (ℕ → Bool) → (List ℕ → Beyond) → ℕ → Next → Beyond
 parts_after closes part n next = if next.0 then beyond_parts closes part n next.1 else Ok next.1
 
@@ -310,14 +313,14 @@ word_after b text = if b == 116 then beyond_word (codes "rue") text
     else (if b == 102 then beyond_word (codes "alse") text else (if b == 110 then beyond_word (codes "ull") text else beyond_number (b ∷ text)))
 
 -- an item after its first byte
-past_errs : (item : List ℕ → Beyond) (b : ℕ) (inner : List ℕ → Beyond) → Errs inner → ((text : List ℕ) → item (b ∷ text) ≡ inner text)
+passing_errs : (item : List ℕ → Beyond) (b : ℕ) (inner : List ℕ → Beyond) → Errs inner → ((text : List ℕ) → item (b ∷ text) ≡ inner text)
     → (text : List ℕ) (stop : Stop) → item (b ∷ text) ≡ Err stop → Decided (Gives item) (b ∷ text) stop
-past_errs item b inner errs is text stop e = lift (Gives inner) (Gives item) (b ∷ text) (b ∷ []) text stop refl (λ other s same h. is other ∙ h)
+passing_errs item b inner errs is text stop e = lift (Gives inner) (Gives item) (b ∷ text) (b ∷ []) text stop refl (λ other s same h. is other ∙ h)
     (errs text stop (sym (is text) ∙ e))
 
-past_firm : (item : List ℕ → Beyond) (b : ℕ) (inner : List ℕ → Beyond) → Firms inner → ((text : List ℕ) → item (b ∷ text) ≡ inner text)
+passing_firm : (item : List ℕ → Beyond) (b : ℕ) (inner : List ℕ → Beyond) → Firms inner → ((text : List ℕ) → item (b ∷ text) ≡ inner text)
     → (text rest : List ℕ) → item (b ∷ text) ≡ Ok rest → Passed (Gives item) (λ x. x) (Fits rest) (b ∷ text) rest
-past_firm item b inner firm is text rest e =
+passing_firm item b inner firm is text rest e =
     let p = firm text rest (sym (is text) ∙ e) in
     record { taken = b ∷ p.taken; split = ap (λ x. b ∷ x) p.split; passes = λ other fits. is (p.taken ++ other) ∙ p.passes other tt }
 
@@ -366,7 +369,7 @@ scalar_errs [] stop e = at_end (Gives beyond_scalar) Syntax [] stop e
 scalar_errs (b ∷ text) stop e = go (form_of b)
   where
     go : Form b ⊎ (is_letter b ≡ false) → Decided (Gives beyond_scalar) (b ∷ text) stop
-    go (inl f) = past_errs beyond_scalar b f.inner f.errs f.is text stop e
+    go (inl f) = passing_errs beyond_scalar b f.inner f.errs f.is text stop e
     go (inr none) = lift (Gives beyond_number) (Gives beyond_scalar) (b ∷ text) [] (b ∷ text) stop refl
         (λ other s same h. scalar_number other (begins_same is_letter other (b ∷ text) same ∙ none) ∙ h)
         (number_errs (b ∷ text) stop (sym (scalar_number (b ∷ text) none) ∙ e))
@@ -377,19 +380,20 @@ scalar_oks [] rest e = absurd cc
 scalar_oks (b ∷ text) rest e = go (form_of b)
   where
     go : Form b ⊎ (is_letter b ≡ false) → Passed (Gives beyond_scalar) (λ x. x) (Fits rest) (b ∷ text) rest
-    go (inl f) = past_firm beyond_scalar b f.inner f.firm f.is text rest e
+    go (inl f) = passing_firm beyond_scalar b f.inner f.firm f.is text rest e
     go (inr none) =
         let p = number_oks (b ∷ text) rest (sym (scalar_number (b ∷ text) none) ∙ e) in
         record {
           taken = p.taken;
           split = p.split;
           passes = λ other fits.
-              scalar_number (p.taken ++ other) (begins_fits is_letter (b ∷ text) (p.taken ++ other) refl refl (fits_past (b ∷ text) p.taken rest other p.split fits) none)
+              scalar_number (p.taken ++ other) (begins_fits is_letter (b ∷ text) (p.taken ++ other) refl refl (fits_beyond (b ∷ text) p.taken rest other p.split fits) none)
               ∙ p.passes other fits;
         }
 
 -- ---- nesting
 
+-- whether a byte is an opening bracket
 abbrev pub is_bracket : ℕ → Bool
 is_bracket b = b == 123 || b == 91
 
@@ -406,13 +410,15 @@ flat_oks item is text rest none e =
     record {
       taken = p.taken;
       split = p.split;
-      passes = λ other fits. is (p.taken ++ other) (begins_fits is_bracket text (p.taken ++ other) refl refl (fits_past text p.taken rest other p.split fits) none)
+      passes = λ other fits. is (p.taken ++ other) (begins_fits is_bracket text (p.taken ++ other) refl refl (fits_beyond text p.taken rest other p.split fits) none)
           ∙ p.passes other fits;
     }
 
+-- a bracket where none is allowed is too deep
 pub unnested_deep : (b : ℕ) (text : List ℕ) → is_bracket b ≡ true → beyond_unnested (b ∷ text) ≡ Err (stop_at TooDeep (b ∷ text))
 unnested_deep b text is = rw is refl
 
+-- a value without a bracket is a scalar where none is allowed
 pub unnested_flat : (text : List ℕ) → begins is_bracket text ≡ false → beyond_unnested text ≡ beyond_scalar text
 unnested_flat [] none = refl
 unnested_flat (b ∷ text) none = rw none refl
@@ -433,6 +439,7 @@ unnested_oks text rest e = go text (begins is_bracket text) refl e
     go (b ∷ t) true is e = let f : ◌≡◌ {A = Beyond} (Err (stop_at TooDeep (b ∷ t))) (Ok rest) = sym (unnested_deep b t is) ∙ e in absurd cc
     go t false is e = flat_oks beyond_unnested unnested_flat t rest is e
 
+-- a value without a bracket is a scalar where brackets are allowed
 pub nested_flat : (value : List ℕ → Beyond) (text : List ℕ) → begins is_bracket text ≡ false → beyond_nested value text ≡ beyond_scalar text
 nested_flat value [] none = refl
 nested_flat value (b ∷ text) none = go (b == 123) refl (b == 91) refl none
@@ -454,6 +461,7 @@ array_errs value reads = group_errs (λ b. b == 93) value reads
 array_firm : (value : List ℕ → Beyond) → Reads value → Firms (beyond_array value)
 array_firm value reads = group_firm (λ b. b == 93) value reads
 
+-- neither of two brackets
 pub either_bracket : (o a : Bool) → o ≡ false → a ≡ false → o || a ≡ false
 either_bracket o a p q = rw (p, q) refl
 
@@ -462,8 +470,8 @@ nested_errs value reads [] stop e = flat_errs (beyond_nested value) (nested_flat
 nested_errs value reads (b ∷ text) stop e = go (b == 123) refl (b == 91) refl
   where
     go : (x : Bool) → (b == 123) ≡ x → (y : Bool) → (b == 91) ≡ y → Decided (Gives (beyond_nested value)) (b ∷ text) stop
-    go true o y a = past_errs (beyond_nested value) b (beyond_object value) (object_errs value reads) (λ t. rw o refl) text stop e
-    go false o true a = past_errs (beyond_nested value) b (beyond_array value) (array_errs value reads) (λ t. rw (o, a) refl) text stop e
+    go true o y a = passing_errs (beyond_nested value) b (beyond_object value) (object_errs value reads) (λ t. rw o refl) text stop e
+    go false o true a = passing_errs (beyond_nested value) b (beyond_array value) (array_errs value reads) (λ t. rw (o, a) refl) text stop e
     go false o false a = flat_errs (beyond_nested value) (nested_flat value) (b ∷ text) stop (either_bracket (b == 123) (b == 91) o a) e
 
 nested_oks : (value : List ℕ → Beyond) → Reads value → Oks (beyond_nested value)
@@ -471,8 +479,8 @@ nested_oks value reads [] rest e = flat_oks (beyond_nested value) (nested_flat v
 nested_oks value reads (b ∷ text) rest e = go (b == 123) refl (b == 91) refl
   where
     go : (x : Bool) → (b == 123) ≡ x → (y : Bool) → (b == 91) ≡ y → Passed (Gives (beyond_nested value)) (λ x. x) (Fits rest) (b ∷ text) rest
-    go true o y a = past_firm (beyond_nested value) b (beyond_object value) (object_firm value reads) (λ t. rw o refl) text rest e
-    go false o true a = past_firm (beyond_nested value) b (beyond_array value) (array_firm value reads) (λ t. rw (o, a) refl) text rest e
+    go true o y a = passing_firm (beyond_nested value) b (beyond_object value) (object_firm value reads) (λ t. rw o refl) text rest e
+    go false o true a = passing_firm (beyond_nested value) b (beyond_array value) (array_firm value reads) (λ t. rw (o, a) refl) text rest e
     go false o false a = flat_oks (beyond_nested value) (nested_flat value) (b ∷ text) rest (either_bracket (b == 123) (b == 91) o a) e
 
 pub value_reads : (level : ℕ) → Reads (beyond_value level)
@@ -492,6 +500,7 @@ value_reads (suc level) =
 
 -- ---- the whole text
 
+-- the end of a text, after white space
 abbrev pub last : List ℕ → Beyond
 last text = if length text == 0 then Ok [] else Err (stop_at TrailingText text)
 

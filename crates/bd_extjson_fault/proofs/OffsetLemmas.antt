@@ -5,15 +5,17 @@ use Rattle.std.proofs.lemmas.{Bool.Decides.nat_tests}
 use Rattle.bd_extjson_fault.specs.declared.skip.Stop.{Stop}
 use Rattle.bd_extjson_fault.specs.declared.skip.StopKind.{StopKind}
 use Rattle.bd_extjson_fault.specs.declared.skip.StopKind.TheVariants.{Syntax}
-use Rattle.bd_extjson_fault.specs.FaultPlace.{begins_surrogate}
+use Rattle.bd_extjson_fault.specs.FaultOffset.{begins_surrogate}
 use Rattle.bd_extjson_fault.specs.JsonSyntax.{Beyond, ◌>>=◌, begins, beyond_all, beyond_white, beyond_word, is_white}
 
 -- ---- the first byte
 
+-- the first byte of a text, if it has one
 abbrev pub first_of : List ℕ → Option ℕ
 first_of [] = None
 first_of (b ∷ text) = Some b
 
+-- texts with the same first byte begin alike
 pub begins_same : (is : ℕ → Bool) (x y : List ℕ) → first_of x ≡ first_of y → begins is x ≡ begins is y
 begins_same is [] [] e = refl
 begins_same is [] (c ∷ y) e = absurd cc
@@ -45,6 +47,7 @@ closing is b bracket brace e = go (b == 93) refl (b == 125) refl e
     go false p true q e = let same : b ≡ 125 = grind (arith, nat_tests, q) in rw same brace
     go false p false q e = absurd cc
 
+-- a text that ends or goes to a bracket begins with no other byte, and so does one that fits it
 pub begins_fits : (is : ℕ → Bool) (text other : List ℕ) → is 93 ≡ false → is 125 ≡ false → Fits text other → begins is text ≡ false
     → begins is other ≡ false
 begins_fits is text other bracket brace (inl e) none = begins_same is other text e ∙ none
@@ -55,14 +58,17 @@ pub fits_taken : (taken text other : List ℕ) → Fits text other → Fits (tak
 fits_taken [] text other fits = fits
 fits_taken (b ∷ taken) text other fits = inl refl
 
-pub fits_past : (whole taken text other : List ℕ) → whole ≡ taken ++ text → Fits text other → Fits whole (taken ++ other)
-fits_past whole taken text other e fits = rw e (fits_taken taken text other fits)
+-- what fits a text fits it after the bytes that were taken
+pub fits_beyond : (whole taken text other : List ℕ) → whole ≡ taken ++ text → Fits text other → Fits whole (taken ++ other)
+fits_beyond whole taken text other e fits = rw e (fits_taken taken text other fits)
 
 -- ---- an item is decided
 
+-- a fault of this kind, at the first of these bytes
 abbrev pub stop_at : StopKind → List ℕ → Stop
 stop_at kind text = record { kind = kind; remaining = length text }
 
+-- An item gives the answer for a text, with what follows the text.
 abbrev pub Gives : {A : Type 0} → (List ℕ → Result A Stop) → List ℕ → Result A Stop → Type 0
 Gives item text answer = item text ≡ answer
 
@@ -130,29 +136,36 @@ pub here : {A : Type 0} (says : List ℕ → Result A Stop → Type 0) (kind : S
     → ((other : List ℕ) → says (first ∷ other) (Err (stop_at kind (first ∷ other)))) → Decided says (first ∷ rest) stop
 here says kind first rest stop e stays = there says kind [] first rest stop e stays
 
+-- a fault at the end of a text says nothing of a longer one
 pub at_end : {A : Type 0} (says : List ℕ → Result A Stop → Type 0) (kind : StopKind) (text : List ℕ) (stop : Stop)
     → ◌≡◌ {A = Result A Stop} (Err (stop_at kind [])) (Err stop) → Decided says text stop
 at_end says kind text stop e = let same : stop ≡ stop_at kind [] = cc in inl (ap (λ s. s.remaining) same)
 
 -- ---- items after one another
 
+-- A fault before the end of a text stays, whatever follows it.
 abbrev pub Errs : {A : Type 0} → (List ℕ → Result A Stop) → Type 0
 Errs item = (text : List ℕ) (stop : Stop) → item text ≡ Err stop → Decided (Gives item) text stop
 
+-- What was read of a text stays, if what follows does not continue it.
 abbrev pub Oks : (List ℕ → Beyond) → Type 0
 Oks item = (text rest : List ℕ) → item text ≡ Ok rest → Passed (Gives item) (λ x. x) (Fits rest) text rest
 
+-- whatever follows
 abbrev pub Always : List ℕ → Type 0
 Always text = Unit {0}
 
+-- A fault stays, and so does what was read, if what follows does not continue it.
 abbrev pub Firms : (List ℕ → Beyond) → Type 0
 Firms item = (text rest : List ℕ) → item text ≡ Ok rest → Passed (Gives item) (λ x. x) Always text rest
 
+-- what is firm keeps what was read
 pub loose : (item : List ℕ → Beyond) → Firms item → Oks item
 loose item firm text rest e =
     let p = firm text rest e in
     record { taken = p.taken; split = p.split; passes = λ other fits. p.passes other tt }
 
+-- faults of two items one after the other stay
 pub then_errs : {B : Type 0} (f : List ℕ → Beyond) (g : List ℕ → Result B Stop) → Errs f → Oks f → Errs g → Errs (λ x. f x >>= g)
 then_errs {B} f g fails passes next text stop e = go (f text) refl e
   where
@@ -166,6 +179,7 @@ then_errs {B} f g fails passes next text stop e = go (f text) refl e
         lift (Gives f) (Gives (λ x. f x >>= g)) text [] text stop refl
         (λ other s same h. rw h refl) (fails text stop (is ∙ ap Err same))
 
+-- what two items one after the other read stays
 pub then_oks : (f g : List ℕ → Beyond) → Oks f → Oks g → Oks (λ x. f x >>= g)
 then_oks f g passes next text rest e = go (f text) refl e
   where
@@ -176,7 +190,7 @@ then_oks f g passes next text rest e = go (f text) refl e
         record {
           taken = p.taken ++ q.taken;
           split = p.split ∙ ap (λ x. p.taken ++ x) q.split ∙ sym (append_assoc p.taken q.taken rest);
-          passes = λ other fits. rw (append_assoc p.taken q.taken other, p.passes (q.taken ++ other) (fits_past mid q.taken rest other q.split fits)) (q.passes other fits);
+          passes = λ other fits. rw (append_assoc p.taken q.taken other, p.passes (q.taken ++ other) (fits_beyond mid q.taken rest other q.split fits)) (q.passes other fits);
         }
     go (Err s) is e = absurd cc
 
@@ -220,6 +234,7 @@ run_by is b text true e r = record {
 }
 run_by is b text false e r = record { taken = []; split = rw e refl; passes = λ other none. no_more is other none }
 
+-- each text begins with a run of such bytes, perhaps an empty one
 pub run_of : (is : ℕ → Bool) (text : List ℕ) → Run is text
 unfolding beyond_all
 run_of is [] = record { taken = []; split = refl; passes = λ other e. no_more is other e }
@@ -231,6 +246,7 @@ unfolding beyond_all
 run_ends_by is b text true e more = rw e more
 run_ends_by is b text false e more = rw e e
 
+-- after a run of bytes none of them follows
 pub run_ends : (is : ℕ → Bool) (text : List ℕ) → begins is (beyond_all is text) ≡ false
 unfolding beyond_all
 run_ends is [] = refl
@@ -272,6 +288,7 @@ pub record Piece {A : Type 0} (item : List ℕ → Result A Stop) (give : List �
 abbrev pub Pieces : (List ℕ → Beyond) → Type 0
 Pieces item = (text rest : List ℕ) → item text ≡ Ok rest → Piece item (λ x. x) text rest
 
+-- an item that takes a piece of the text is firm
 pub firm_piece : (item : List ℕ → Beyond) → Pieces item → Firms item
 firm_piece item piece text rest e =
     let p = piece text rest e in
@@ -304,6 +321,7 @@ white_firm item piece text rest e =
           rw (append_assoc r.taken (p.first ∷ p.more) other, r.passes (p.first ∷ (p.more ++ other)) none) (p.passes other);
     }
 
+-- if two steps succeed, each does
 pub bind_ok : {A B : Type 0} (r : Result A Stop) (k : A → Result B Stop) (y : B) → (r >>= k) ≡ Ok y → (x : A) × (r ≡ Ok x) × (k x ≡ Ok y)
 bind_ok (Ok x) k y e = (x, refl, e)
 bind_ok (Err s) k y e = absurd cc
@@ -321,6 +339,7 @@ word_err_by c word b text stop true is more e = lift (Gives (beyond_word word)) 
     (λ other s same h. rw is h) (more (rw is at e))
 word_err_by c word b text stop false is more e = here (Gives (beyond_word (c ∷ word))) Syntax b text stop (rw is at e) (λ other. rw is refl)
 
+-- the fault of a word stays
 pub word_errs : (word : List ℕ) → Errs (beyond_word word)
 unfolding beyond_word
 word_errs [] text stop e = absurd cc
@@ -341,6 +360,7 @@ word_split_by c word b text rest true is more e =
     cc
 word_split_by c word b text rest false is more e = let f = rw is at e in absurd cc
 
+-- a text with a word is the word and the rest
 pub word_split : (word text rest : List ℕ) → beyond_word word text ≡ Ok rest → text ≡ word ++ rest
 unfolding beyond_word
 word_split [] text rest e = cc
@@ -350,5 +370,6 @@ word_split (c ∷ word) (b ∷ text) rest e = word_split_by c word b text rest (
 pub word_piece : (c : ℕ) (word : List ℕ) → Pieces (beyond_word (c ∷ word))
 word_piece c word text rest e = record { first = c; more = word; split = word_split (c ∷ word) text rest e; passes = word_passes (c ∷ word) }
 
+-- a word is firm
 pub word_firm : (word : List ℕ) → Firms (beyond_word word)
 word_firm word text rest e = record { taken = word; split = word_split word text rest e; passes = λ other always. word_passes word other }
