@@ -126,7 +126,7 @@ fn others(rt: HostRuntime) -> Result<(), Fail> {
         &rt,
         alloc,
         b"{\"a\":{\"$uuid\":\"\"}}",
-        JsonFaultKind::NotInProfile,
+        JsonFaultKind::BadWrapper,
         5,
     )
 }
