@@ -9,7 +9,7 @@ use Rattle.bd_cli_args.specs.CommandLine.{find_options_in}
 use Rattle.bd_cli_args.specs.FileCommands.{file_app, refusal_by}
 use Rattle.bd_cli_args.specs.declared.order.WordsFault.{WordsFault}
 use Rattle.bd_cli_args.specs.declared.order.WordsFault.TheVariants.{NoMemory, Usage}
-use Rattle.bd_cli_args.specs.WideLine.{OrderView, wide_commands, check, conflicts, conflicts_in, dump, dump_app, pack, flag_in, parser_refusal, serve, serve_app, find_app, form_in, line_app, ordered_by}
+use Rattle.bd_cli_args.specs.WideLine.{OrderView, wide_commands, check, conflicts, conflicts_in, dump, dump_app, pack, flag_in, parser_refusal, serve, serve_app, find_app, form_in, layout_in, line_app, ordered_by}
 use Rattle.bd_cli_args.proofs.ProgramLemmas.{EachShape, HasOrders, IsProgram, file_given, file_orders, refused, shape_in}
 
 pub is_program : IsProgram line_app ordered_by
@@ -29,10 +29,10 @@ is_program = record {
     of_file name says is = file_orders line_app ordered_by (shape_in line_app (file_app name)) (λ rows. says) refl (λ rows c. file_given _ _ c) is
 
     finds : HasOrders line_app ordered_by (shape_in line_app find_app)
-    finds = file_orders line_app ordered_by (shape_in line_app find_app) (λ rows file. OrderView.find file (first_of (codes "queryFile") rows) (find_options_in rows) (form_in rows)) refl (λ rows c. file_given _ _ c) (λ rows. refl)
+    finds = file_orders line_app ordered_by (shape_in line_app find_app) (λ rows file. OrderView.find file (first_of (codes "queryFile") rows) (find_options_in rows) (layout_in rows) (form_in rows)) refl (λ rows c. file_given _ _ c) (λ rows. refl)
 
     dumps : HasOrders line_app ordered_by (shape_in line_app dump_app)
-    dumps = file_orders line_app ordered_by (shape_in line_app dump_app) (λ rows file. dump file (first_of (codes "jsonFormat") rows)) refl (λ rows c. file_given _ _ c) (λ rows. refl)
+    dumps = file_orders line_app ordered_by (shape_in line_app dump_app) (λ rows file. dump file (layout_in rows)) refl (λ rows c. file_given _ _ c) (λ rows. refl)
 
     serves : HasOrders line_app ordered_by (shape_in line_app serve_app)
     serves = file_orders line_app ordered_by (shape_in line_app serve_app) (λ rows file. serve file (flag_in (codes "byValue") rows)) refl (λ rows c. file_given _ _ c) (λ rows. refl)

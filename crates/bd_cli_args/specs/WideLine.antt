@@ -8,48 +8,59 @@ use Rattle.clap.specs.Walk.{Row, Rule, Text, first_of}
 use Rattle.clap.specs.declared.builder.action.ArgAction.{ArgAction}
 use Rattle.bd_cli_args.specs.CommandLine.{find_app as options_app, find_options_in, with_options}
 use Rattle.bd_cli_args.specs.FileCommands.{file_app, order_by, program_app, refusal_by}
-use Rattle.bd_cli_args.specs.FindOptions.{FindOptions}
+use Rattle.bd_cli_args.specs.{FindOptions.FindOptions, LayoutOptions.LayoutOptions}
 use Rattle.bd_cli_args.specs.declared.order.WordsFault.{WordsFault}
 use Rattle.bd_cli_args.specs.declared.wide_line.{Form.Form, WideOrder.WideOrder}
-
--- `dump`, which takes a file and a format
-abbrev pub dump_app : App
-dump_app = with_options (file_app (codes "dump")) ((codes "jsonFormat", false) ∷ [])
 
 -- a flag `--name`
 abbrev pub flag_rule : Text → Rule
 flag_rule name = record (new_rule name) { long = Some name; action = Some ArgAction.SetTrue }
 
--- `find` with its file, the options of `bsonfind`, one more, and two flags
+-- a command with these flags too
+abbrev pub with_flags : App → List Text → App
+with_flags app [] = app
+with_flags app (name ∷ names) = with_flags (with_rule app (flag_rule name)) names
+
+-- a command with the options of a layout too
+abbrev pub with_layout : App → App
+with_layout app =
+    let more = with_options app ((codes "type", false) ∷ (codes "jsonFormat", false) ∷ (codes "fields", false) ∷ []) in
+    with_flags more (codes "noId" ∷ codes "noHeaderLine" ∷ codes "jsonArray" ∷ codes "pretty" ∷ [])
+
+-- `dump` with its file and a layout
+abbrev pub dump_app : App
+dump_app = with_layout (file_app (codes "dump"))
+
+-- `find` with its file, the options of `bsonfind`, one more, two flags and a layout
 abbrev pub find_app : App
 find_app = let app = with_options options_app ((codes "queryFile", false) ∷ []) in
-    with_rule (with_rule app (flag_rule (codes "count"))) (flag_rule (codes "bson"))
+    with_layout (with_rule (with_rule app (flag_rule (codes "count"))) (flag_rule (codes "bson")))
 
 -- `serve` with its file and a flag
 abbrev pub serve_app : App
 serve_app = with_rule (file_app (codes "serve")) (flag_rule (codes "byValue"))
 
 -- the command lines that the parser of `bsonwide` accepts: `check` or `pack` with one file, `find` with one file, its options and
--- its flags, `dump` with one file and its option, and `serve` with one file and its flag
+-- its flags, `dump` with one file and a layout, and `serve` with one file and its flag
 abbrev pub line_app : App
 line_app = let files = codes "check" ∷ codes "pack" ∷ [] in
     with_subcommand (with_subcommand (program_app (codes "bsonwide") files find_app) dump_app.top) serve_app.top
 
 -- a command: the meaning of the arguments, with texts as their bytes
 pub data OrderView : Type 0 where
-  dump : Text → Option Text → OrderView
+  dump : Text → LayoutOptions → OrderView
   check : Text → OrderView
   pack : Text → OrderView
-  find : Text → Option Text → FindOptions → Form → OrderView
+  find : Text → Option Text → FindOptions → LayoutOptions → Form → OrderView
   serve : Text → Bool → OrderView
 
 -- the command that a `WideOrder` in memory represents
 abbrev pub meant : WideOrder → OrderView
-meant (WideOrder.Dump file format) = dump (string_bytes file) (option_map string_bytes format)
+meant (WideOrder.Dump file layout) = dump (string_bytes file) layout
 meant (WideOrder.Check file) = check (string_bytes file)
 meant (WideOrder.Pack file) = pack (string_bytes file)
-meant (WideOrder.Find file query_file options form) =
-    find (string_bytes file) (option_map string_bytes query_file) options form
+meant (WideOrder.Find file query_file options layout form) =
+    find (string_bytes file) (option_map string_bytes query_file) options layout form
 meant (WideOrder.Serve file by_value) = serve (string_bytes file) by_value
 
 -- whether a flag is given
@@ -68,6 +79,29 @@ option_in name rows = is_some (first_of name rows)
 abbrev pub is_input : Text → List Row → Bool
 is_input name rows = option_map_or (λ text. bytes_eq text (codes "-")) (first_of name rows) false
 
+-- the options of a layout
+abbrev pub layout_in : List Row → LayoutOptions
+layout_in rows = record {
+  output = first_of (codes "type") rows;
+  format = first_of (codes "jsonFormat") rows;
+  fields = first_of (codes "fields") rows;
+  no_id = flag_in (codes "noId") rows;
+  no_header = flag_in (codes "noHeaderLine") rows;
+  is_array = flag_in (codes "jsonArray") rows;
+  is_pretty = flag_in (codes "pretty") rows;
+}
+
+-- whether an option of a layout is given
+abbrev pub lays_out : List Row → Bool
+lays_out rows =
+    ((option_in (codes "type") rows || option_in (codes "jsonFormat") rows || option_in (codes "fields") rows)
+    || (flag_in (codes "noId") rows || flag_in (codes "noHeaderLine") rows))
+    || (flag_in (codes "jsonArray") rows || flag_in (codes "pretty") rows)
+
+-- whether `--bson` or `--count` is given, and an option of a layout beside it
+abbrev pub prints_no_text : List Row → Bool
+prints_no_text rows = (flag_in (codes "bson") rows || flag_in (codes "count") rows) && lays_out rows
+
 -- whether `--count` is given, and `--bson` or `--batch` beside it
 abbrev pub counts_more : List Row → Bool
 counts_more rows = flag_in (codes "count") rows && (flag_in (codes "bson") rows || option_in (codes "batch") rows)
@@ -79,13 +113,14 @@ queries_twice rows = (option_in (codes "query") rows && option_in (codes "queryF
 
 -- whether the options of `find` do not go together
 abbrev pub conflicts : List Row → Bool
-conflicts rows = counts_more rows || queries_twice rows
+conflicts rows = counts_more rows || queries_twice rows || prints_no_text rows
 
 -- what each command does with its FILE, by its name
 abbrev pub wide_commands : List Row → List (Text × (Text → OrderView))
-wide_commands rows = (codes "dump", λ file. dump file (first_of (codes "jsonFormat") rows)) ∷ (codes "check", check) ∷ (codes "pack", pack)
+wide_commands rows = (codes "dump", λ file. dump file (layout_in rows)) ∷ (codes "check", check) ∷ (codes "pack", pack)
     ∷ (codes "serve", λ file. serve file (flag_in (codes "byValue") rows))
-    ∷ (codes "find", λ file. find file (first_of (codes "queryFile") rows) (find_options_in rows) (form_in rows)) ∷ []
+    ∷ (codes "find", λ file. find file (first_of (codes "queryFile") rows) (find_options_in rows) (layout_in rows) (form_in rows))
+    ∷ []
 
 -- the command that a name and its parsed arguments mean
 abbrev pub ordered_by : Text → List Row → Option OrderView

@@ -16,7 +16,8 @@
 //!
 //! - `order`: `Order`, the command, and `WordsFault`, why there is none.
 //! - `command_line`: `parse_words`, by `clap`.
-//! - `wide_line`: `parse_wide_words` and `WideOrder`, the same for `bsonwide`, and `Form`, what its `find` prints.
+//! - `wide_line`: `parse_wide_words` and `WideOrder`, the same for `bsonwide`; `Form`, what its `find` prints, and `LayoutOptions`, how its
+//!   texts are laid out: `specs/LayoutOptions.antt`.
 //! - `file_commands`: what both command lines share: `specs/FileCommands.antt`.
 #![tactic(auto)]
 
@@ -27,4 +28,4 @@ mod wide_line;
 
 pub use command_line::{USAGE, parse_words};
 pub use order::{FindOptions, Order, WordsFault};
-pub use wide_line::{Form, WideOrder, parse_wide_words};
+pub use wide_line::{Form, LayoutOptions, WideOrder, parse_wide_words};

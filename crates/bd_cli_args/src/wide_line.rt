@@ -1,25 +1,27 @@
 //! The command line of `bsonwide`: which arguments are accepted, and the command that they mean.
 
-ghost use Rattle.std.specs.Prelude.{◌≡◌, ◌⊎◌, true, false, IfErr, IfOk, IsSome, None, Some};
-ghost use Rattle.clap.specs.Words.{found_of, rows_of, rule_of, takes};
+ghost use Rattle.std.specs.Prelude.{◌≡◌, ◌⊎◌, map, true, false, IfErr, IfOk, IsSome, None, Some};
+ghost use Rattle.clap.specs.Words.{app_of, found_of, rows_of, rule_of, takes};
+ghost use Rattle.clap.specs.declared.builder.command.Command.TheViews.{out-Command as fields_of};
 ghost use Rattle.bd_cli_args.specs.CommandLine.{words_of};
 ghost use Rattle.bd_cli_args.specs.inside.FileCommands.{IsBuiltAs};
 ghost use Rattle.bd_cli_args.specs.declared.order.WordsFault.TheVariants.{NoMemory};
-ghost use Rattle.bd_cli_args.specs.WideLine.{conflicts, conflicts_in, counts_more, dump_app, fault_for, find_app, flag_in, flag_rule, form_in, is_input, is_serve_of_input, line_app, meant, option_in, order_of, ordered_by, parser_refusal, queries_twice, serve_app, serves_input};
+ghost use Rattle.bd_cli_args.specs.WideLine.{conflicts, conflicts_in, counts_more, dump_app, fault_for, find_app, flag_in, flag_rule, form_in, is_input, is_serve_of_input, lays_out, layout_in, line_app, meant, option_in, order_of, ordered_by, parser_refusal, prints_no_text, queries_twice, serve_app, serves_input, with_flags, with_layout};
 
 use crate::command_line::{find_command, options_of, text_of, with_options};
 use crate::file_commands::{Made, explain_error, of_file, program_command};
 use crate::order::{FindOptions, WordsFault};
-use clap::{Arg, ArgAction, ArgMatches};
+use clap::{Arg, ArgAction, ArgMatches, Command};
 use std::alloc::Global;
+use std::marker::Model;
 
 /// A command with its file. The file `-` is standard input.
 #[derive(Debug, Drop)]
 pub enum WideOrder {
-    /// Each document as Extended JSON in the format of this word, one a line; without a word the format is canonical.
+    /// The text of each document, as these options lay it out.
     Dump {
         file: String,
-        format: Option<String>,
+        layout: LayoutOptions,
     },
     /// A line for each document that has a fault.
     Check {
@@ -35,6 +37,8 @@ pub enum WideOrder {
         /// The file of the query, in place of that of the options.
         query_file: Option<String>,
         options: FindOptions,
+        /// How their texts are laid out. In accepted arguments none of these options is given beside another form.
+        layout: LayoutOptions,
         form: Form,
     },
     /// A session over the dump `file`. `file` is never `-` in accepted arguments: the commands come from standard input.
@@ -45,10 +49,46 @@ pub enum WideOrder {
     },
 }
 
+/// How the texts of documents are laid out, as the options say it.
+#[derive(Debug, Drop)]
+pub struct LayoutOptions {
+    /// The word of `--type`.
+    pub output: Option<String>,
+    /// The word of `--jsonFormat`.
+    pub format: Option<String>,
+    /// The text of `--fields`.
+    pub fields: Option<String>,
+    /// Whether `--noId` is given.
+    pub no_id: bool,
+    /// Whether `--noHeaderLine` is given.
+    pub no_header: bool,
+    /// Whether `--jsonArray` is given.
+    pub is_array: bool,
+    /// Whether `--pretty` is given.
+    pub is_pretty: bool,
+}
+
+impl Model for LayoutOptions {
+    ghost use Rattle.std.specs.Prelude.{option_map, string_bytes};
+    ghost use Rattle.bd_cli_args.specs.LayoutOptions as options;
+
+    ghost Value = { options.LayoutOptions };
+
+    ghost view = { λ o. record {
+      output = option_map string_bytes o.output;
+      format = option_map string_bytes o.format;
+      fields = option_map string_bytes o.fields;
+      no_id = o.no_id;
+      no_header = o.no_header;
+      is_array = o.is_array;
+      is_pretty = o.is_pretty;
+    } };
+}
+
 /// What `find` prints of the documents that it finds.
 #[derive(Debug, Clone, Copy, Drop, PartialEq)]
 pub enum Form {
-    /// Their canonical Extended JSON, one a line.
+    /// Their texts.
     Lines,
     /// Their bytes.
     Bson,
@@ -58,12 +98,13 @@ pub enum Form {
 
 /// The command that the arguments mean, without the program's name.
 ///
-/// `dump FILE [--jsonFormat FORMAT]`, `check FILE`, `pack FILE` and `serve FILE [--byValue]` are accepted, and
+/// `dump FILE [LAYOUT]`, `check FILE`, `pack FILE` and `serve FILE [--byValue]` are accepted, and
 /// `find FILE [--query Q | --queryFile FILE] [--sort S] [--skip N] [--limit N] [--batch N] [--index PATH] [--after TOKEN]
-/// [--bson | --count]`, N from 0 to 2,147,483,647, with the options in any order, each at most once, and FILE before or after
-/// them. `--skip` and `--limit` are 0 by default. `--count` takes neither `--batch` nor `--bson` beside it, and only one of the two
-/// files is `-`. A file whose name looks like a flag comes after `--`. The file of `serve` is not `-`, since the commands of a
-/// session come from standard input.
+/// [LAYOUT | --bson | --count]`, N from 0 to 2,147,483,647, with the options in any order, each at most once, and FILE before or
+/// after them. `--skip` and `--limit` are 0 by default. `--count` takes neither `--batch` nor `--bson` beside it, and only one of
+/// the two files is `-`. LAYOUT is any of `--type TYPE`, `--jsonFormat FORMAT`, `--fields FIELDS`, `--noId`, `--noHeaderLine`,
+/// `--jsonArray` and `--pretty`. A file whose name looks like a flag comes after `--`. The file of `serve` is not `-`, since the
+/// commands of a session come from standard input.
 ///
 /// # Errors
 ///
@@ -119,7 +160,23 @@ fn order_in(alloc: Global, words: &[String]) -> Result<WideOrder, WordsFault>
 fn conflicts(matches: &ArgMatches<'_>) -> bool
     ensures { result ≡ conflicts (rows_of (found_of matches.now)) }
 {
-    counts_more(matches) || queries_twice(matches)
+    counts_more(matches) || queries_twice(matches) || prints_no_text(matches)
+}
+
+/// Whether `--bson` or `--count` is given, and an option of a layout beside it.
+fn prints_no_text(matches: &ArgMatches<'_>) -> bool
+    ensures { result ≡ prints_no_text (rows_of (found_of matches.now)) }
+{
+    (is_set(matches, "bson") || is_set(matches, "count")) && lays_out(matches)
+}
+
+/// Whether an option of a layout is given.
+fn lays_out(matches: &ArgMatches<'_>) -> bool
+    ensures { result ≡ lays_out (rows_of (found_of matches.now)) }
+{
+    (is_given(matches, "type") || is_given(matches, "jsonFormat") || is_given(matches, "fields"))
+        || (is_set(matches, "noId") || is_set(matches, "noHeaderLine"))
+        || (is_set(matches, "jsonArray") || is_set(matches, "pretty"))
 }
 
 /// Whether `--count` is given, and `--bson` or `--batch` beside it.
@@ -160,6 +217,25 @@ fn is_set(matches: &ArgMatches<'_>, name: &str) -> bool
     matches.get_str(name).is_some_and(|text| text == "true")
 }
 
+/// The options of a layout in these matches.
+fn layout_of(alloc: Global, matches: &ArgMatches<'_>) -> Result<LayoutOptions, WordsFault>
+    ensures options { IfOk result (λ o. o ≡ layout_in (rows_of (found_of matches.now))) }
+    ensures fault { IfErr result (λ f. f ≡ NoMemory) }
+{
+    let output = text_of(alloc, matches, "type")?;
+    let format = text_of(alloc, matches, "jsonFormat")?;
+    let fields = text_of(alloc, matches, "fields")?;
+    Ok(LayoutOptions {
+        output,
+        format,
+        fields,
+        no_id: is_set(matches, "noId"),
+        no_header: is_set(matches, "noHeaderLine"),
+        is_array: is_set(matches, "jsonArray"),
+        is_pretty: is_set(matches, "pretty"),
+    })
+}
+
 /// The form that the flags request.
 fn form_of(matches: &ArgMatches<'_>) -> Form
     ensures { result ≡ form_in (rows_of (found_of matches.now)) }
@@ -187,19 +263,21 @@ fn order_named(alloc: Global, name: &str, matches: &ArgMatches<'_>) -> Result<Wi
     let file = String::from_str(alloc, file)?;
     match name {
         "dump" => {
-            let format = text_of(alloc, matches, "jsonFormat")?;
-            Ok(WideOrder::Dump { file, format })
+            let layout = layout_of(alloc, matches)?;
+            Ok(WideOrder::Dump { file, layout })
         }
         "check" => Ok(WideOrder::Check { file }),
         "pack" => Ok(WideOrder::Pack { file }),
         "find" => {
             let query_file = text_of(alloc, matches, "queryFile")?;
             let options = options_of(alloc, matches)?;
+            let layout = layout_of(alloc, matches)?;
             let form = form_of(matches);
             Ok(WideOrder::Find {
                 file,
                 query_file,
                 options,
+                layout,
                 form,
             })
         }
@@ -220,11 +298,44 @@ fn line_command<'a>(alloc: Global) -> Made<'a>
     line.subcommand(serve_command(alloc)?)
 }
 
-/// The command that takes a file and a format.
+/// The command `dump` with a file and a layout.
 fn dump_command<'a>(alloc: Global) -> Made<'a>
     ensures { IfOk result (IsBuiltAs dump_app) }
 {
-    with_options(alloc, of_file(alloc, "dump")?, &[("jsonFormat", false)])
+    with_layout(alloc, of_file(alloc, "dump")?)
+}
+
+/// The options of a layout that take a text.
+const LAYOUT_OPTIONS: [(&str, bool); 3] = [
+    ("type", false),
+    ("jsonFormat", false),
+    ("fields", false),
+];
+
+/// The flags of a layout.
+const LAYOUT_FLAGS: [&str; 4] = ["noId", "noHeaderLine", "jsonArray", "pretty"];
+
+/// A command with the options of a layout added.
+fn with_layout<'a>(alloc: Global, command: Command<'a>) -> Made<'a>
+    requires { (fields_of command).has_globals ≡ false }
+    ensures { IfOk result (IsBuiltAs (with_layout (app_of command.entry))) }
+{
+    let with = with_options(alloc, command, &LAYOUT_OPTIONS)?;
+    with_flags(alloc, with, &LAYOUT_FLAGS)
+}
+
+/// A command with these flags added.
+fn with_flags<'a>(alloc: Global, command: Command<'a>, names: &[&'a str]) -> Made<'a>
+    requires { (fields_of command).has_globals ≡ false }
+    ensures app { IfOk result (λ c.
+        app_of c ≡ with_flags (app_of command.entry) (map (λ name. name.now) names.now)) }
+    ensures local { IfOk result (λ c. (fields_of c).has_globals ≡ false) }
+{
+    let mut with = command;
+    for name in names {
+        with = with.arg(flag_argument(alloc, name))?;
+    }
+    Ok(with)
 }
 
 /// The command `serve` with its flag.
@@ -240,7 +351,8 @@ fn flagged_command<'a>(alloc: Global) -> Made<'a>
 {
     let command = with_options(alloc, find_command(alloc)?, &[("queryFile", false)])?;
     let command = command.arg(flag_argument(alloc, "count"))?;
-    command.arg(flag_argument(alloc, "bson"))
+    let command = command.arg(flag_argument(alloc, "bson"))?;
+    with_layout(alloc, command)
 }
 
 fn flag_argument<'a>(alloc: Global, name: &'a str) -> Arg<'a>
