@@ -266,7 +266,7 @@ module _ {texts : Texts} {old mid : Reader} {out_old out_mid : Writer} {buffer :
 
     -- it was stopped at a document without a fault
     pub stops_visiting : (out_new : Writer) (stopped : OutputFault) → IsFrame part → fault_under texts.profile buffer.offset part ≡ None
-        → WritesSome {A = Unit {0}} (texts.IsGood part) (between out_mid out_new) (Err stopped) → StopsScan texts (between old new) (between out_old out_new) stopped
+        → WritesSome {A = Unit {0}} (texts.IsGood buffer.number part) (between out_mid out_new) (Err stopped) → StopsScan texts (between old new) (between out_old out_new) stopped
     stops_visiting out_new NoMemory is none same = rw same runs_out
     stops_visiting out_new Unwritten is none (piece, good, failed_write) = stops_by out_new None piece Unwritten is (none, good) failed_write
 

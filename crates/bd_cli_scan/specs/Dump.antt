@@ -1,5 +1,5 @@
 -- What `dump` prints for an input, and where a run of it may stop.
-use Rattle.std.specs.Prelude.{◌≡◌, ◌⊎◌, ℕ, List, [], ◌∷◌, ◌++◌, length, codes, decimal}
+use Rattle.std.specs.Prelude.{◌≡◌, ◌⊎◌, ◌+◌, ℕ, List, [], ◌∷◌, ◌++◌, length, codes, decimal}
 use Rattle.std.specs.Prelude.{Option, Some, None, option_map}
 use Rattle.bd_value.specs.{Tree.Doc, Tree.doc, Tree.fields_of}
 use Rattle.bd_io_device.specs.Devices.{Over, Reader, read_words}
@@ -19,12 +19,22 @@ pub record Form : Type 1 where
   pub profile : Profile
   -- The bytes are the document.
   pub Spells : Doc → List ℕ → Type 0
-  -- The text is that of the document.
-  pub IsText : Doc → List ℕ → Type 0
+  -- what is before the first document
+  pub opening : List ℕ
+  -- This is printed for the document of that number, the first of which is 0.
+  pub IsPiece : ℕ → Doc → List ℕ → Type 0
+  -- what is after the last document, if nothing is wrong
+  pub closing : List ℕ
 
--- the form of `bsonfind`: the nineteen kinds, in canonical Extended JSON
+-- the form of `bsonfind`: the nineteen kinds, in canonical Extended JSON, one a line
 abbrev pub named : Form
-named = record { profile = Profile.Named; Spells = IsDocument; IsText = λ d text. text ≡ text_of (doc (fields_of d)) }
+named = record {
+  profile = Profile.Named;
+  Spells = IsDocument;
+  opening = [];
+  IsPiece = λ number d piece. piece ≡ text_of (doc (fields_of d)) ++ 10 ∷ [];
+  closing = [];
+}
 
 -- The bytes are these documents, one after the other with nothing between.
 abbrev pub AreDocuments : Form → List Doc → List ℕ → Type 0
@@ -32,23 +42,29 @@ AreDocuments form [] bytes = bytes ≡ []
 AreDocuments form (d ∷ ds) bytes =
     (prefix : List ℕ) × (rest : List ℕ) × form.Spells d prefix × AreDocuments form ds rest × (bytes ≡ prefix ++ rest)
 
--- These are the lines of the documents: the text of each, and a newline.
-abbrev pub AreLines : Form → List Doc → List ℕ → Type 0
-AreLines form [] lines = lines ≡ []
-AreLines form (d ∷ ds) lines =
-    (text : List ℕ) × (rest : List ℕ) × form.IsText d text × AreLines form ds rest × (lines ≡ text ++ 10 ∷ rest)
+-- These are the pieces of the documents, whose numbers begin at `number`, joined.
+abbrev pub ArePieces : Form → ℕ → List Doc → List ℕ → Type 0
+ArePieces form number [] text = text ≡ []
+ArePieces form number (d ∷ ds) text = (piece : List ℕ) × (rest : List ℕ) × form.IsPiece number d piece
+    × ArePieces form (number + 1) ds rest × (text ≡ piece ++ rest)
 
--- The bytes are a document, and this is its line.
-abbrev pub IsLine : Form → List ℕ → List ℕ → Type 0
-IsLine form bytes line = (d : Doc) × form.Spells d bytes × AreLines form (d ∷ []) line
+-- The bytes are a document, and this is printed for it as the document of that number.
+abbrev pub IsPieceOf : Form → ℕ → List ℕ → List ℕ → Type 0
+IsPieceOf form number bytes piece = (d : Doc) × form.Spells d bytes × form.IsPiece number d piece
+
+-- what is after the last document: nothing, if something is wrong
+abbrev pub closing_after : Form → Option (List ℕ) → List ℕ
+closing_after form None = form.closing
+closing_after form (Some message) = []
 
 -- the end of the line of counts of `dump`, after the number of documents printed
 abbrev pub objects_found : List ℕ
 objects_found = codes " objects found" ++ 10 ∷ []
 
--- the output of `dump` for the lines of n documents and for what is wrong after them, if anything is
-abbrev pub dump_output : List ℕ → ℕ → Option (List ℕ) → Transcript
-dump_output lines count wrong = output_before lines wrong (decimal count ++ objects_found)
+-- the output of `dump` for the pieces of n documents and for what is wrong after them, if anything is
+abbrev pub dump_output : Form → List ℕ → ℕ → Option (List ℕ) → Transcript
+dump_output form pieces count wrong =
+    output_before (form.opening ++ (pieces ++ closing_after form wrong)) wrong (decimal count ++ objects_found)
 
 -- The bytes are these documents; or, if there is a fault, they begin with these, and the document after them has it.
 abbrev pub EndsAs : Form → List Doc → Option Fault → List ℕ → Type 0
@@ -60,11 +76,12 @@ EndsAs form ds (Some f) bytes = (prefix : List ℕ) × (rest : List ℕ) × AreD
 -- well-formed documents and the beginning of one more.
 abbrev pub IsOutputBy : Form → List ℕ → Option ReadFault → Transcript → Type 0
 IsOutputBy form bytes None output =
-    (ds : List Doc) × (lines : List ℕ) × (end : Option Fault) × EndsAs form ds end bytes × AreLines form ds lines
-    × (output ≡ dump_output lines (length ds) (option_map (fault_text (length ds)) end))
+    (ds : List Doc) × (pieces : List ℕ) × (end : Option Fault) × EndsAs form ds end bytes × ArePieces form 0 ds pieces
+    × (output ≡ dump_output form pieces (length ds) (option_map (fault_text (length ds)) end))
 IsOutputBy form bytes (Some fault) output =
-    (ds : List Doc) × (lines : List ℕ) × (prefix : List ℕ) × (part : List ℕ) × AreDocuments form ds prefix × IsCutShort part
-    × (bytes ≡ prefix ++ part) × AreLines form ds lines × (output ≡ dump_output lines (length ds) (Some (read_words fault)))
+    (ds : List Doc) × (pieces : List ℕ) × (prefix : List ℕ) × (part : List ℕ) × AreDocuments form ds prefix × IsCutShort part
+    × (bytes ≡ prefix ++ part) × ArePieces form 0 ds pieces
+    × (output ≡ dump_output form pieces (length ds) (Some (read_words fault)))
 
 -- If no read failed, no byte was read after the end, or after the document that has the first fault.
 abbrev pub ReadsToFirstFault : Form → Over Reader → List ℕ → Type 0
@@ -72,15 +89,31 @@ ReadsToFirstFault form file bytes = (ds : List Doc) × (prefix : List ℕ) × (r
     × AreDocuments form ds prefix × (bytes ≡ prefix ++ rest)
     × ((rest ≡ []) ⊎ ((f : Fault) × (frame_fault_under form.profile (length prefix) rest ≡ Some f))) × StopsWithinOne prefix file
 
--- A run of `dump` in a form: a piece is the line of a document, and is written before the next document is read.
+-- The text is the output up to these documents: what is before them, and their pieces.
+abbrev pub IsOutputTo : Form → List Doc → List ℕ → Type 0
+IsOutputTo form ds text = (pieces : List ℕ) × ArePieces form 0 ds pieces × (text ≡ form.opening ++ pieces)
+
+-- After this text, which is the output up to some documents, this is the piece of the next document, and only these were read.
+abbrev pub IsNextPiece : Form → Over Reader → List ℕ → List ℕ → Type 0
+IsNextPiece form file text piece = (ds : List Doc) × (d : Doc) × (given : List ℕ) × AreDocuments form (ds ++ d ∷ []) given
+    × GivesOnly file given × IsOutputTo form ds text × form.IsPiece (length ds) d piece
+
+-- After this text, which is the output up to the last document, this is what is after it.
+abbrev pub IsClosing : Form → Over Reader → List ℕ → List ℕ → Type 0
+IsClosing form file text piece = (ds : List Doc) × (given : List ℕ) × AreDocuments form ds given
+    × StreamsInput file given None × IsOutputTo form ds text × (piece ≡ form.closing)
+
+-- A run of `dump` in a form: a piece is that of a document, and is written before the next document is read; or it is what is
+-- before the first document, and is written before the first read, or what is after the last.
 abbrev pub dump_run_by : Form → Over Reader → Run
 dump_run_by form file = record {
   IsOutput = λ output. (bytes : List ℕ) × (fault : Option ReadFault) × StreamsInput file bytes fault
       × IsOutputBy form bytes fault output × (fault ≡ None → ReadsToFirstFault form file bytes);
-  IsNext = λ text piece. (ds : List Doc) × (d : Doc) × (given : List ℕ) × AreDocuments form (ds ++ d ∷ []) given
-      × GivesOnly file given × AreLines form ds text × AreLines form (d ∷ []) piece;
-  IsBegun = λ text. (ds : List Doc) × (given : List ℕ) × AreDocuments form ds given × StopsWithinOne given file
-      × (file.after.failures ≡ file.before.failures) × AreLines form ds text;
+  IsNext = λ text piece. ((text ≡ []) × (piece ≡ form.opening) × (file.after ≡ file.before))
+      ⊎ (IsNextPiece form file text piece ⊎ IsClosing form file text piece);
+  IsBegun = λ text. ((text ≡ []) × (file.after ≡ file.before))
+      ⊎ ((ds : List Doc) × (given : List ℕ) × AreDocuments form ds given × StopsWithinOne given file
+      × (file.after.failures ≡ file.before.failures) × IsOutputTo form ds text);
 }
 
 -- ---- `bsonfind`

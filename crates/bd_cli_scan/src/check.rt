@@ -68,8 +68,8 @@ fn check_by<const ALL: bool, R: Input, O: Output, E: Output>(
         (over O.state out.old out.new) (over E.state err.old err.new) result }
     ensures stops_reading { ReadsNoFurther R.read_gives input.old input.new }
 {
-    let line = String::new(alloc);
-    match scan_documents(alloc, input, &mut Checker::<ALL> { line }, out) {
+    let mut line = String::new(alloc);
+    match scan_documents(alloc, input, &Checker::<ALL>, &mut line, out) {
         Ok(scan) => match scan.fault {
             None => report_findings(program, scan.count, scan.bad, None, err),
             // A bad length: the scan cannot find the next document.
@@ -85,20 +85,23 @@ fn check_by<const ALL: bool, R: Input, O: Output, E: Output>(
 }
 
 /// Writes a line for each document that has a fault, if all types are read or not.
-#[derive(Debug, Drop)]
-struct Checker<const ALL: bool> {
-    /// The buffer for their lines.
-    line: String,
-}
+#[derive(Clone, Copy)]
+struct Checker<const ALL: bool>;
 
-impl<O: Output, const ALL: bool> Visitor<O> for Checker<ALL> {
-    ghost texts = { check_texts (profile_of ALL) };
+impl<O: Output, const ALL: bool> Visitor<String, O> for Checker<ALL> {
+    ghost texts = { λ _. check_texts (profile_of ALL) };
 
     fn profile(&self) -> Profile {
         if ALL { Profile::All } else { Profile::Named }
     }
 
-    fn visit(&mut self, _document: &[u8], _out: &mut O) -> Result<(), OutputFault> {
+    fn visit(
+        &self,
+        _number: u32,
+        _document: &[u8],
+        _line: &mut String,
+        _out: &mut O,
+    ) -> Result<(), OutputFault> {
         Ok(())
     }
 
@@ -106,11 +109,11 @@ impl<O: Output, const ALL: bool> Visitor<O> for Checker<ALL> {
         false
     }
 
-    fn meet(&mut self, fault: &Fault, out: &mut O) -> Result<(), OutputFault> {
-        self.line.clear();
-        push_fault(fault, &mut self.line)?;
-        self.line.push('\n')?;
-        Ok(write_all(out, self.line.as_bytes())?)
+    fn meet(&self, fault: &Fault, line: &mut String, out: &mut O) -> Result<(), OutputFault> {
+        line.clear();
+        push_fault(fault, line)?;
+        line.push('\n')?;
+        Ok(write_all(out, line.as_bytes())?)
     }
 }
 

@@ -1,10 +1,10 @@
 //! `dump`: the documents of an input, one per line.
 
-ghost use Rattle.std.specs.Prelude.{◌≡◌, ◌⊎◌, ◌++◌, ℕ, IfOk, None, Some, decimal, option_map};
+ghost use Rattle.std.specs.Prelude.{◌≡◌, ◌⊎◌, ◌++◌, ℕ, IfErr, IfOk, None, Some, decimal, option_map};
 ghost use Rattle.bd_io_device.specs.Devices.{over};
 ghost use Rattle.bd_bson_check.specs.FirstFault.{fault_under};
-ghost use Rattle.bd_cli_scan.specs.Dump.{Form, IsLine, dump_run, dump_run_by, named, objects_found};
-ghost use Rattle.bd_cli_scan.specs.inside.Scan.{dump_texts};
+ghost use Rattle.bd_cli_scan.specs.Dump.{Form, IsPieceOf, closing_after, dump_run, dump_run_by, named, objects_found};
+ghost use Rattle.bd_cli_scan.specs.inside.Scan.{PrintsAll, StopsPrinting, dump_texts};
 ghost use Rattle.bd_cli_scan.specs.Input.{ReadsNoFurther};
 ghost use Rattle.bd_cli_scan.specs.Output.{error_line, input_words, no_memory, wrong_line, wrong_status};
 ghost use Rattle.bd_cli_scan.specs.Run.{Prints, ReportsMessage};
@@ -36,88 +36,151 @@ pub fn dump<R: Input, O: Output, E: Output>(
     ensures stops_reading { ReadsNoFurther R.read_gives input.old input.new }
 {
     let buffer = TextBuffer::new(alloc);
-    dump_by(alloc, program, NamedLines { buffer }, input, out, err)
+    dump_by(alloc, program, &NamedLines, buffer, input, out, err)
 }
 
-/// What makes the lines of documents.
-pub trait Lines {
+/// What makes the pieces that are printed: one for each document, in a buffer, and what is before and after them.
+pub trait Pieces<B> {
     /// Which documents it reads, and how it prints them.
-    ghost form: { Form };
+    ghost form: { Self → Form };
 
     /// Which types the documents may have.
     fn profile(&self) -> Profile
-        ensures { result ≡ form.profile };
+        ensures { result ≡ (form self.now).profile };
 
-    /// The line of a document, with its newline.
+    /// What is before the first document.
+    fn opening(&self) -> &[u8]
+        ensures { result.now ≡ (form self.now).opening };
+
+    /// What is printed for the document of that number, the first of which is 0.
     ///
     /// `NoMemory` if memory for it runs out.
-    fn line(&mut self, document: &[u8]) -> Result<&[u8], NoMemory>
-        requires { (base : ℕ) × (fault_under form.profile base document.now ≡ None) }
-        ensures { IfOk result (λ line. IsLine form document.now line.now) };
+    fn piece<'a>(
+        &self,
+        number: u32,
+        document: &[u8],
+        buffer: &'a mut B,
+    ) -> Result<&'a [u8], NoMemory>
+        requires { (base : ℕ) × (fault_under (form self.now).profile base document.now ≡ None) }
+        ensures { IfOk result (λ piece. IsPieceOf (form self.now) number document.now piece.now) };
+
+    /// What is after the last document, if nothing is wrong.
+    fn closing(&self) -> &[u8]
+        ensures { result.now ≡ (form self.now).closing };
 }
 
-/// Reads an input document by document, and prints the line of each before the next is read.
-pub fn dump_by<L: Lines + Drop, R: Input, O: Output, E: Output>(
+/// Reads an input document by document, and prints the piece of each before the next is read.
+pub fn dump_by<B: Drop, P: Pieces<B>, R: Input, O: Output, E: Output>(
     alloc: Global,
     program: &str,
-    lines: L,
+    pieces: &P,
+    buffer: B,
     input: &mut R,
     out: &mut O,
     err: &mut E,
 ) -> Status
-    ensures dumps { Prints program.now (dump_run_by L.form (over R.state input.old input.new))
+    ensures dumps { Prints program.now
+        (dump_run_by (P.form pieces.now) (over R.state input.old input.new))
         (over O.state out.old out.new) (over E.state err.old err.new) result }
     ensures stops_reading { ReadsNoFurther R.read_gives input.old input.new }
 {
-    match scan_documents(alloc, input, &mut Printer { lines }, out) {
+    let mut buffer = buffer;
+    match print_all(alloc, pieces, &mut buffer, input, out) {
         Ok(scan) => report_scan(alloc, program, &scan, err),
         Err(fault) => report_stop(program, fault, err),
     }
 }
 
-/// The lines of documents of the nineteen kinds.
-#[derive(Debug, Drop)]
-struct NamedLines {
-    /// The buffer for each of them.
-    buffer: TextBuffer,
+/// Prints what is before the documents, the pieces of the documents up to the first fault, and what is after them.
+fn print_all<B, P: Pieces<B>, R: Input, O: Output>(
+    alloc: Global,
+    pieces: &P,
+    buffer: &mut B,
+    input: &mut R,
+    out: &mut O,
+) -> Result<DumpScan, OutputFault>
+    ensures prints { IfOk result (PrintsAll (P.form pieces.now)
+        (over R.state input.old input.new) (over O.state out.old out.new)) }
+    ensures stops { IfErr result (StopsPrinting (P.form pieces.now)
+        (over R.state input.old input.new) (over O.state out.old out.new)) }
+    ensures stops_reading { ReadsNoFurther R.read_gives input.old input.new }
+{
+    write_all(out, pieces.opening())?;
+    let scan = scan_documents(alloc, input, &Printer { pieces }, buffer, out)?;
+    write_all(out, closing_after::<B, P>(pieces, &scan))?;
+    Ok(scan)
 }
 
-impl Lines for NamedLines {
-    ghost form = { named };
+/// What is after the documents of a scan: nothing, if something is wrong.
+fn closing_after<'a, B, P: Pieces<B>>(pieces: &'a P, scan: &DumpScan) -> &'a [u8]
+    ensures { result.now ≡ closing_after (P.form pieces.entry.now)
+        (option_map input_words scan.entry.now.fault) }
+{
+    match scan.fault {
+        None => pieces.closing(),
+        Some(_) => b"",
+    }
+}
+
+/// The lines of documents of the nineteen kinds.
+#[derive(Clone, Copy)]
+struct NamedLines;
+
+impl Pieces<TextBuffer> for NamedLines {
+    ghost form = { λ _. named };
 
     fn profile(&self) -> Profile {
         Profile::Named
     }
 
+    fn opening(&self) -> &[u8] {
+        b""
+    }
+
     #[inline(always)]
-    fn line(&mut self, document: &[u8]) -> Result<&[u8], NoMemory> {
-        self.buffer.line(RawDoc::whole(document).value())
+    fn piece<'a>(
+        &self,
+        _number: u32,
+        document: &[u8],
+        buffer: &'a mut TextBuffer,
+    ) -> Result<&'a [u8], NoMemory> {
+        buffer.line(RawDoc::whole(document).value())
+    }
+
+    fn closing(&self) -> &[u8] {
+        b""
     }
 }
 
-/// Writes the line of each document, up to the first fault.
-#[derive(Drop)]
-struct Printer<L> {
-    lines: L,
+/// Writes the piece of each document, up to the first fault.
+#[derive(Clone, Copy)]
+struct Printer<'a, P> {
+    pieces: &'a P,
 }
 
-impl<O: Output, L: Lines> Visitor<O> for Printer<L> {
-    ghost texts = { dump_texts L.form };
+impl<B, O: Output, P: Pieces<B>> Visitor<B, O> for Printer<'_, P> {
+    ghost texts = { λ printer. dump_texts (P.form printer.pieces.now) };
 
     fn profile(&self) -> Profile {
-        self.lines.profile()
+        self.pieces.profile()
     }
 
-    fn visit(&mut self, document: &[u8], out: &mut O) -> Result<(), OutputFault> {
-        let line = self.lines.line(document)?;
-        Ok(write_all(out, line)?)
+    fn visit(
+        &self,
+        number: u32,
+        document: &[u8],
+        buffer: &mut B,
+        out: &mut O,
+    ) -> Result<(), OutputFault> {
+        let piece = self.pieces.piece(number, document, buffer)?;
+        Ok(write_all(out, piece)?)
     }
 
     fn ends_at_fault(&self) -> bool {
         true
     }
 
-    fn meet(&mut self, _fault: &Fault, _out: &mut O) -> Result<(), OutputFault> {
+    fn meet(&self, _fault: &Fault, _buffer: &mut B, _out: &mut O) -> Result<(), OutputFault> {
         Ok(())
     }
 }

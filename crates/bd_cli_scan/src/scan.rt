@@ -16,42 +16,52 @@ use bd_bson_stream::{DocBuffer, DocFault};
 use bd_io_device::{Input, Output, ReadFault};
 use std::alloc::Global;
 
-/// Receives the documents of an input, each before the next is read.
-pub(crate) trait Visitor<O: Output> {
+/// Receives the documents of an input, each before the next is read, with a buffer for what it writes.
+pub(crate) trait Visitor<B, O: Output> {
     /// What is written for them.
-    ghost texts: { Texts };
+    ghost texts: { Self → Texts };
 
     /// Which types the documents may have.
     fn profile(&self) -> Profile
-        ensures { result ≡ texts.profile };
+        ensures { result ≡ (texts self.now).profile };
 
-    /// Receives the bytes of a document without a fault.
-    fn visit(&mut self, document: &[u8], out: &mut O) -> Result<(), OutputFault>
-        requires { (base : ℕ) × (fault_under texts.profile base document.now ≡ None) }
-        ensures { WritesSome (texts.IsGood document.now) (over O.state out.old out.new) result };
+    /// Receives the number and the bytes of a document without a fault.
+    fn visit(
+        &self,
+        number: u32,
+        document: &[u8],
+        buffer: &mut B,
+        out: &mut O,
+    ) -> Result<(), OutputFault>
+        requires { (base : ℕ) × (fault_under (texts self.now).profile base document.now ≡ None) }
+        ensures { WritesSome ((texts self.now).IsGood number document.now)
+            (over O.state out.old out.new) result };
 
     /// Whether the scan ends at the first document with a fault.
     fn ends_at_fault(&self) -> bool
-        ensures { (number : ℕ) (f : DumpFault) → result ≡ is_none (texts.bad number f) };
+        ensures { (number : ℕ) (f : DumpFault) →
+            result ≡ is_none ((texts self.now).bad number f) };
 
     /// Receives the fault of a document.
-    fn meet(&mut self, fault: &Fault, out: &mut O) -> Result<(), OutputFault>
-        ensures { WritesText (unwrap_or (texts.bad fault.now.document (fault_view fault.now)) [])
+    fn meet(&self, fault: &Fault, buffer: &mut B, out: &mut O) -> Result<(), OutputFault>
+        ensures { WritesText
+            (unwrap_or ((texts self.now).bad fault.now.document (fault_view fault.now)) [])
             (over O.state out.old out.new) result };
 }
 
 /// Scans the documents of an input.
-pub(crate) fn scan_documents<R: Input, O: Output, V: Visitor<O>>(
+pub(crate) fn scan_documents<B, R: Input, O: Output, V: Visitor<B, O>>(
     alloc: Global,
     input: &mut R,
-    visitor: &mut V,
+    visitor: &V,
+    line: &mut B,
     out: &mut O,
 ) -> Result<DumpScan, OutputFault>
     ensures within_limit { IfOk result (λ w. (w.count < longest_input) × (w.bad ≤ w.count)) }
-    ensures scans { IfOk result
-        (ScansDocuments V.texts (over R.state input.old input.new) (over O.state out.old out.new)) }
-    ensures stops { IfErr result
-        (StopsScan V.texts (over R.state input.old input.new) (over O.state out.old out.new)) }
+    ensures scans { IfOk result (ScansDocuments (V.texts visitor.now)
+        (over R.state input.old input.new) (over O.state out.old out.new)) }
+    ensures stops { IfErr result (StopsScan (V.texts visitor.now)
+        (over R.state input.old input.new) (over O.state out.old out.new)) }
     ensures stops_reading { ReadsNoFurther R.read_gives input.old input.new }
 {
     let profile = visitor.profile();
@@ -64,7 +74,7 @@ pub(crate) fn scan_documents<R: Input, O: Output, V: Visitor<O>>(
             Ok(true) => {
                 let bytes = buffer.bytes();
                 match check_bytes(alloc, profile, bytes, base, count) {
-                    Ok(()) => visitor.visit(bytes, out)?,
+                    Ok(()) => visitor.visit(count, bytes, line, out)?,
                     Err(fault) => {
                         if is_want_of_memory(&fault) {
                             return Err(OutputFault::NoMemory);
@@ -72,7 +82,7 @@ pub(crate) fn scan_documents<R: Input, O: Output, V: Visitor<O>>(
                         if visitor.ends_at_fault() {
                             return Ok(ended(count, bad, InputFault::Faulty(fault)));
                         }
-                        visitor.meet(&fault, out)?;
+                        visitor.meet(&fault, line, out)?;
                         bad += 1;
                     }
                 }
@@ -84,7 +94,7 @@ pub(crate) fn scan_documents<R: Input, O: Output, V: Visitor<O>>(
             Err(DocFault::Frame(fault)) => {
                 let fault = fault.to_fault(alloc);
                 // A bad length: the scan cannot find the next document.
-                visitor.meet(&fault, out)?;
+                visitor.meet(&fault, line, out)?;
                 return Ok(ended(count, bad, InputFault::Faulty(fault)));
             }
             Err(DocFault::Read(ReadFault::NoMemory)) => return Err(OutputFault::NoMemory),

@@ -1,9 +1,9 @@
 -- What a scan of the documents of an input visits and writes, for `dump` and for `check`.
 use Rattle.std.specs.Prelude.{◌≡◌, ◌⊎◌, ℕ, List, [], ◌∷◌, ◌++◌, length}
 use Rattle.std.specs.Prelude.{Option, Some, None, Bool, true, false}
-use Rattle.std.specs.Prelude.{is_some, unwrap_or, Err}
+use Rattle.std.specs.Prelude.{is_some, option_map, unwrap_or, Err}
 use Rattle.std.specs.{List.count_by}
-use Rattle.bd_io_device.specs.Devices.{WriteFailsAfter, Over, Reader, TakesText, Writer}
+use Rattle.bd_io_device.specs.Devices.{WriteFailsAfter, WriteFailsWithin, Over, Reader, TakesText, Writer, between}
 use Rattle.bd_bson_check.specs.{Fault.fault_view, Fault.Fault, FirstFault.fault_under, declared.profile.Profile.Profile}
 use Rattle.bd_bson_check.specs.Dump.{frame_fault_under, frame_length}
 use Rattle.bd_bson_stream.specs.Stream.{IsCutShort, IsFrame}
@@ -14,15 +14,15 @@ use Rattle.bd_cli_scan.specs.{declared.output.OutputFault.TheVariants.Unwritten}
 use Rattle.bd_cli_scan.specs.Input.{StopsInside, StopsWithinOne, StreamsInput}
 use Rattle.bd_bson_check.specs.declared.fault.Fault as reported
 use Rattle.bd_cli_scan.specs.declared.input.InputFault.TheVariants as faults
-use Rattle.bd_cli_scan.specs.{Check.check_result_line, Dump.Form, Dump.IsLine}
+use Rattle.bd_cli_scan.specs.{Check.check_result_line, Dump.Form, Dump.IsPieceOf, Dump.closing_after, Output.input_words}
 
 -- ---- the scan of the documents
 
--- Under which profile a scan of a dump reads, and what it writes: for the bytes of a document without a fault;
+-- Under which profile a scan of a dump reads, and what it writes: for a document without a fault by its number and its bytes;
 -- for a fault by its document number; None: the scan ends at a fault.
 pub record Texts : Type 1 where
   pub profile : Profile
-  pub IsGood : List ℕ → List ℕ → Type 0
+  pub IsGood : ℕ → List ℕ → List ℕ → Type 0
   pub bad : ℕ → Fault → Option (List ℕ)
 
 -- the profile that reads all types, or not
@@ -30,19 +30,19 @@ abbrev pub profile_of : Bool → Profile
 profile_of true = Profile.All
 profile_of false = Profile.Named
 
--- `dump` writes the line of each document, and ends at the first fault
+-- `dump` writes the piece of each document, and ends at the first fault
 abbrev pub dump_texts : Form → Texts
-dump_texts form = record { profile = form.profile; IsGood = IsLine form; bad = λ number f. None }
+dump_texts form = record { profile = form.profile; IsGood = IsPieceOf form; bad = λ number f. None }
 
 -- `check` writes nothing for a document without a fault, and the line of each fault
 abbrev pub check_texts : Profile → Texts
-check_texts p = record { profile = p; IsGood = λ bytes text. text ≡ []; bad = λ number f. Some (check_result_line number (Some f)) }
+check_texts p = record { profile = p; IsGood = λ number bytes text. text ≡ []; bad = λ number f. Some (check_result_line number (Some f)) }
 
 -- This is written for the document of that number, which has these bytes at that offset,
 -- and this fault or none.
 abbrev pub IsTextOf : Texts → ℕ → ℕ → List ℕ → Option Fault → List ℕ → Type 0
 IsTextOf texts number offset bytes None text =
-    (fault_under texts.profile offset bytes ≡ None) × texts.IsGood bytes text
+    (fault_under texts.profile offset bytes ≡ None) × texts.IsGood number bytes text
 IsTextOf texts number offset bytes (Some f) text =
     (fault_under texts.profile offset bytes ≡ Some f) × (texts.bad number f ≡ Some text)
 
@@ -94,3 +94,24 @@ StopsScan texts file out Unwritten =
     × (file.after.failures ≡ file.before.failures))
     ⊎ ((f : reported.Fault) × EndsScan texts file (length vs) given (Some (faults.Faulty f))
     × (texts.bad (length vs) (fault_view f) ≡ Some piece)))
+
+-- ---- the output of `dump`
+
+-- The scan reached its end, and the writer took what is before the documents, their pieces, and what is after them, if nothing
+-- is wrong.
+abbrev pub PrintsAll : Form → Over Reader → Over Writer → DumpScan → Type 0
+PrintsAll form file out scan = (vs : List (Option Fault)) × (given : List ℕ) × (pieces : List ℕ)
+    × AreVisited (dump_texts form) vs given pieces × (scan.count ≡ length vs)
+    × EndsScan (dump_texts form) file (length vs) given scan.fault
+    × TakesText out (form.opening ++ (pieces ++ closing_after form (option_map input_words scan.fault)))
+
+-- Printing was stopped: a write failed in what is before the documents, and nothing was read; or the scan was stopped; or a write
+-- failed in what is after the last document.
+abbrev pub StopsPrinting : Form → Over Reader → Over Writer → OutputFault → Type 0
+StopsPrinting form file out stopped =
+    ((file.after ≡ file.before) × ((stopped ≡ Unwritten) × WriteFailsWithin out form.opening))
+    ⊎ (((middle : Writer) × TakesText (between out.before middle) form.opening
+    × StopsScan (dump_texts form) file (between middle out.after) stopped)
+    ⊎ ((stopped ≡ Unwritten) × ((vs : List (Option Fault)) × (given : List ℕ) × (pieces : List ℕ)
+    × AreVisited (dump_texts form) vs given pieces × EndsScan (dump_texts form) file (length vs) given None
+    × WriteFailsAfter out (form.opening ++ pieces) form.closing)))

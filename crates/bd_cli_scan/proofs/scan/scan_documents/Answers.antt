@@ -1,8 +1,9 @@
-use Rattle.std.proofs.Common.{rules, arith, ◌≡◌, ◌+◌, [], Some, None, true, false, inl, refl, sym, ◌∙◌}
+use Rattle.std.proofs.Common.{rules, arith, ℕ, Err, subst, ◌≡◌, ◌+◌, [], Some, None, true, false, inl, refl, sym, ◌∙◌}
 use Rattle.std.specs.Prelude.{is_none}
 use Rattle.std.proofs.lemmas.Result.{err_from_is_err_and}
 use Rattle.bd_bson_check.specs.{Fault.fault_view, FirstFault.fault_under}
-use Rattle.bd_io_device.specs.Devices.{zero_reads}
+use Rattle.bd_io_device.specs.Devices.{over, zero_reads}
+use Rattle.bd_cli_scan.specs.inside.Output.{WritesSome}
 use Rattle.bd_io_device.specs.declared.reading.ReadFault.TheVariants as reads
 use Rattle.bd_cli_scan.proofs.ScanLemmas as scans
 use Rattle.bd_cli_scan.proofs.scan.scan_documents.Goals as goal
@@ -12,7 +13,7 @@ visit-requires g c = (c.offset-base.result, rw c.profile-profile.ensures at c.in
 
 pub loop-buffer-init : goal.loop-buffer-init
 loop-buffer-init g c = record {
-  so_far = scans.begins g.V.Visitor.texts (g.R.Input.state c.args.input.now) (g.O.Output.state c.args.out.now) c.new-buffer.result
+  so_far = scans.begins (g.V.Visitor.texts c.args.visitor.now) (g.R.Input.state c.args.input.now) (g.O.Output.state c.args.out.now) c.new-buffer.result
       (search rules) (search rules) (search rules) (search rules);
   not_failed = search rules;
   read = (0, [], zero_reads _);
@@ -25,7 +26,7 @@ loop-buffer-preserved-in-Continue-1 g c =
     let good = c.in_ok-visit-in-Ok.ensures in
     record {
       so_far = scans.goes_on l.invariant.so_far (g.O.Output.state c.visit.new.out) None good.0 l.bad read
-          (rw (c.profile-profile.ensures, c.offset-base.ensures) at c.in-Ok.ensures, good.1) (omega arith) good.2;
+          (rw (c.profile-profile.ensures, c.offset-base.ensures) at c.in-Ok.ensures, rw c.number-count.ensures at good.1) (omega arith) good.2;
       not_failed = search rules;
       read = scans.read_document l.invariant.read (c.read_next.ensures.reads (search rules));
     }
@@ -36,8 +37,10 @@ returns-in_err-visit-in-Ok-clause-stops g c =
     let read = scans.document_read (c.read_next.ensures.reads (search rules)) c.bytes-bytes.ensures c.read_next.new.self.inside in
     let p = err_from_is_err_and c.from_residual.result c.from_residual.ensures.1 in
     let stopped = c.in_err-visit-in-Ok in
+    let stops = subst (λ (n : ℕ). WritesSome {A = Unit {0}} ((g.V.Visitor.texts c.args.visitor.now).IsGood n c.bytes-bytes.result.now)
+    (over g.O.Output.state l.out c.visit.new.out) (Err stopped.field-0.0)) c.number-count.ensures stopped.ensures in
     rw (p.1, p.2) (scans.stops_visiting l.invariant.so_far read.gives (g.O.Output.state c.visit.new.out) stopped.field-0.0
-    read.frame (rw (c.profile-profile.ensures, c.offset-base.ensures) at c.in-Ok.ensures) stopped.ensures)
+    read.frame (rw (c.profile-profile.ensures, c.offset-base.ensures) at c.in-Ok.ensures) stops)
 
 pub returns-then-is_want_of_memory-clause-stops : goal.returns-then-is_want_of_memory-clause-stops
 returns-then-is_want_of_memory-clause-stops g c =
@@ -54,8 +57,8 @@ returns-in_err-meet-in-Err-clause-stops g c =
     let r = c.from_residual-in_err-meet-in-Err in
     let p = err_from_is_err_and r.result r.ensures.1 in
     let stopped = c.in_err-meet-in-Err in
-    let goes_on : false ≡ is_none (g.V.Visitor.texts.bad l.buffer.number (fault_view fault)) = sym c.if-ends_at_fault.false ∙ c.ends_at_fault.ensures l.buffer.number (fault_view fault) in
-    let line = scans.text_there (g.V.Visitor.texts.bad l.buffer.number (fault_view fault)) goes_on in
+    let goes_on : false ≡ is_none ((g.V.Visitor.texts c.args.visitor.now).bad l.buffer.number (fault_view fault)) = sym c.if-ends_at_fault.false ∙ c.ends_at_fault.ensures l.buffer.number (fault_view fault) in
+    let line = scans.text_there ((g.V.Visitor.texts c.args.visitor.now).bad l.buffer.number (fault_view fault)) goes_on in
     let met = rw (f.1 ∙ c.number-count.ensures, line.1) at stopped.ensures in
     rw (p.1, p.2) (scans.stops_by l.invariant.so_far read.gives (g.O.Output.state c.meet.new.out) (Some (fault_view fault)) line.0 stopped.field-0.0
     read.frame (rw (c.profile-profile.ensures, c.offset-base.ensures) at f.0, line.1) met)
@@ -66,10 +69,10 @@ returns-then-ends_at_fault-clause-scans g c =
     let read = scans.document_read (c.read_next.ensures.reads (search rules)) c.bytes-bytes.ensures c.read_next.new.self.inside in
     let fault = c.in-Err.fault in
     let f = scans.found c.number-count.result (fault_under c.profile-profile.result c.offset-base.result c.bytes-bytes.result.now) fault c.in-Err.ensures (search rules) in
-    let ends : true ≡ is_none (g.V.Visitor.texts.bad l.buffer.number (fault_view fault)) = sym c.if-ends_at_fault.true ∙ c.ends_at_fault.ensures l.buffer.number (fault_view fault) in
+    let ends : true ≡ is_none ((g.V.Visitor.texts c.args.visitor.now).bad l.buffer.number (fault_view fault)) = sym c.if-ends_at_fault.true ∙ c.ends_at_fault.ensures l.buffer.number (fault_view fault) in
     let e = c.ended.ensures in
     rw (e.0, e.1, e.2, c.number-count.ensures) (scans.ends_faulty l.invariant.so_far read.gives fault read.frame (rw (c.profile-profile.ensures, c.offset-base.ensures) at f.0) (f.1 ∙ c.number-count.ensures)
-    (scans.no_text (g.V.Visitor.texts.bad l.buffer.number (fault_view fault)) ends))
+    (scans.no_text ((g.V.Visitor.texts c.args.visitor.now).bad l.buffer.number (fault_view fault)) ends))
 
 pub loop-buffer-preserved : goal.loop-buffer-preserved
 loop-buffer-preserved g c =
@@ -77,8 +80,8 @@ loop-buffer-preserved g c =
     let read = scans.document_read (c.read_next.ensures.reads (search rules)) c.bytes-bytes.ensures c.read_next.new.self.inside in
     let fault = c.in-Err.fault in
     let f = scans.found c.number-count.result (fault_under c.profile-profile.result c.offset-base.result c.bytes-bytes.result.now) fault c.in-Err.ensures (search rules) in
-    let goes_on : false ≡ is_none (g.V.Visitor.texts.bad l.buffer.number (fault_view fault)) = sym c.if-ends_at_fault.false ∙ c.ends_at_fault.ensures l.buffer.number (fault_view fault) in
-    let line = scans.text_there (g.V.Visitor.texts.bad l.buffer.number (fault_view fault)) goes_on in
+    let goes_on : false ≡ is_none ((g.V.Visitor.texts c.args.visitor.now).bad l.buffer.number (fault_view fault)) = sym c.if-ends_at_fault.false ∙ c.ends_at_fault.ensures l.buffer.number (fault_view fault) in
+    let line = scans.text_there ((g.V.Visitor.texts c.args.visitor.now).bad l.buffer.number (fault_view fault)) goes_on in
     let met = rw (f.1 ∙ c.number-count.ensures, line.1) at c.in_ok-meet-in-Err.ensures in
     record {
       so_far = scans.goes_on l.invariant.so_far (g.O.Output.state c.meet.new.out) (Some (fault_view fault)) line.0 (l.bad + 1) read
