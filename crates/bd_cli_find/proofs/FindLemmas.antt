@@ -33,15 +33,28 @@ use Rattle.bd_cli_scan.specs.declared.input.InputFault.TheVariants as faults
 
 -- ---- the pieces for places
 
-module _ (IsPiece : ℕ → List ℕ → Type 0) where
-  pieces_join : (ps qs a b : List ℕ) → ArePieces IsPiece ps a → ArePieces IsPiece qs b → ArePieces IsPiece (ps ++ qs) (a ++ b)
+module _ {I : Type 0} (IsPiece : I → List ℕ → Type 0) where
+  pub pieces_join : (ps qs : List I) (a b : List ℕ) → ArePieces IsPiece ps a → ArePieces IsPiece qs b → ArePieces IsPiece (ps ++ qs) (a ++ b)
   pieces_join [] qs a b none are = subst (λ (x : List ℕ). ArePieces IsPiece qs (x ++ b)) (sym none) are
   pieces_join (p ∷ ps) qs a b (piece, rest, is, others, splits) are =
       (piece, rest ++ b, is, pieces_join ps qs rest b others are, ap (λ x. x ++ b) splits ∙ append_assoc piece rest b)
 
-  one_piece : (p : ℕ) (piece : List ℕ) → IsPiece p piece → ArePieces IsPiece (p ∷ []) piece
+  pub one_piece : (p : I) (piece : List ℕ) → IsPiece p piece → ArePieces IsPiece (p ∷ []) piece
   one_piece p piece is = (piece, [], is, refl, sym (append-nil piece))
 
+  -- a piece alone was written
+  pub writes_one : (n : I) (piece : List ℕ) (old new : Writer) → IsPiece n piece → TakesText (between old new) piece
+      → WritesPieces IsPiece (n ∷ []) (between old new)
+  writes_one n piece old new is took = (piece, one_piece n piece is, took)
+
+  -- or it was not
+  pub fails_one : (n : I) (piece : List ℕ) (old new : Writer) → IsPiece n piece → WriteFailsWithin (between old new) piece
+      → StopsAmong IsPiece (n ∷ []) (between old new) Unwritten
+  fails_one n piece old new is failed =
+      ([], piece, ([], n, [], refl, refl, is), write_fails_after old old new [] piece (takes_none old) failed)
+
+-- the first of the pieces for places
+module _ (IsPiece : ℕ → List ℕ → Type 0) where
   module _ (ps : List ℕ) (i : ℕ) (old mid : Writer) (wrote : WritesPieces IsPiece (take i ps) (between old mid)) where
     -- the number at this place, and the others
     at_place : i < length ps → ps ≡ take i ps ++ get_or ps i 0 ∷ drop (i + 1) ps
@@ -59,7 +72,7 @@ module _ (IsPiece : ℕ → List ℕ → Type 0) where
       writes_more took = (
         wrote.0 ++ piece,
         subst (λ (x : List ℕ). ArePieces IsPiece x (wrote.0 ++ piece)) (sym (take_more ps i 0 lt))
-            (pieces_join (take i ps) (get_or ps i 0 ∷ []) wrote.0 piece wrote.1 (one_piece (get_or ps i 0) piece is)),
+            (pieces_join IsPiece (take i ps) (get_or ps i 0 ∷ []) wrote.0 piece wrote.1 (one_piece IsPiece (get_or ps i 0) piece is)),
         takes_both old mid new wrote.0 piece wrote.2 took,
       )
 
@@ -67,17 +80,6 @@ module _ (IsPiece : ℕ → List ℕ → Type 0) where
       pub fails_next : WriteFailsWithin (between mid new) piece → StopsAmong IsPiece ps (between old new) Unwritten
       fails_next failed =
           (wrote.0, piece, (take i ps, get_or ps i 0, drop (i + 1) ps, at_place lt, wrote.1, is), write_fails_after old mid new wrote.0 piece wrote.2 failed)
-
-  -- a piece alone was written
-  pub writes_one : (n : ℕ) (piece : List ℕ) (old new : Writer) → IsPiece n piece → TakesText (between old new) piece
-      → WritesPieces IsPiece (n ∷ []) (between old new)
-  writes_one n piece old new is took = (piece, one_piece n piece is, took)
-
-  -- or it was not
-  pub fails_one : (n : ℕ) (piece : List ℕ) (old new : Writer) → IsPiece n piece → WriteFailsWithin (between old new) piece
-      → StopsAmong IsPiece (n ∷ []) (between old new) Unwritten
-  fails_one n piece old new is failed =
-      ([], piece, ([], n, [], refl, refl, is), write_fails_after old old new [] piece (takes_none old) failed)
 
 -- the lines of the documents at places of a dump
 module _ (ds : List Doc) where
@@ -150,13 +152,13 @@ module _ (program : List ℕ) (out_old out_new : Writer) (err_old err_new : Writ
 
     module _ (c : OpenCursor) where
       -- the batch was printed, and the line of counts
-      pub batch_printed : WritesPieces printing.IsPiece (printing.numbers (at_most size c.remaining)) (between out_old out_new)
+      pub batch_printed : WritesPieces printing.IsPiece (printing.items (at_most size c.remaining)) (between out_old out_new)
           → ReportsMessage (between err_old err_new) (counts_of size c) Done status
           → Prints program (batch_run printing size c) (between out_old out_new) (between err_old err_new) status
       batch_printed (printed, are, took) reported = inl (output_of_text size c printed, (printed, are, refl), took, reported)
 
       -- standard output was stopped
-      pub batch_stopped : (stopped : OutputFault) → StopsAmong printing.IsPiece (printing.numbers (at_most size c.remaining)) (between out_old out_new) stopped
+      pub batch_stopped : (stopped : OutputFault) → StopsAmong printing.IsPiece (printing.items (at_most size c.remaining)) (between out_old out_new) stopped
           → ReportsMessage (between err_old err_new) (error_line program (stop_words stopped)) Failed status
           → Prints program (batch_run printing size c) (between out_old out_new) (between err_old err_new) status
       batch_stopped NoMemory (printed, first, took) reported = inr (inr (printed, first, took, reported))

@@ -3,3 +3,4 @@ pub mod BatchLemmas
 pub mod FindLemmas
 pub mod UniqueLemmas
 pub mod PartsLemmas
+pub mod AroundLemmas

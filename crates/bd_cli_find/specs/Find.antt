@@ -1,6 +1,6 @@
 -- What `find` prints for its options and an input, and where a run of it may stop.
 use Rattle.std.specs.Prelude.{◌≡◌, ℕ, nat_lt, List, [], length, option_map, Option, Some, None, Result}
-use Rattle.std.specs.Prelude.{Ok, Err, codes, if◌then◌else◌, ◌⊎◌, Bool, ◌∷◌, ◌++◌}
+use Rattle.std.specs.Prelude.{Ok, Err, codes, if◌then◌else◌, ◌⊎◌, Bool, true, false, map, ◌∷◌, ◌++◌}
 use Rattle.std.specs.{Prelude.drop, Prelude.decimal, Str.bytes_eq}
 use Rattle.bd_value.specs.{Tree.Doc, Tree.doc, Tree.fields_of}
 use Rattle.bd_cursor_model.specs.Answer.{answer, rest, at_most, is_empty}
@@ -15,6 +15,7 @@ use Rattle.bd_io_device.specs.{declared.reading.ReadFault.ReadFault}
 use Rattle.bd_bson_check.specs.{Fault.Fault, Dump.IsDumpScan}
 use Rattle.bd_cli_args.specs.FindOptions.{FindOptions}
 use Rattle.bd_cli_find.specs.Options.{refused_text, requested_by}
+use Rattle.bd_cli_find.specs.declared.around.Around.{Around as Slices}
 use Rattle.bd_cursor_sort.specs.Selection.{query_to, selection_for}
 use Rattle.bd_cli_scan.specs.{Input.ReadsInput, Run.Run, Run.partial_run}
 use Rattle.bd_cli_scan.specs.declared.output.Status.TheVariants.{Done}
@@ -130,10 +131,11 @@ find_run options file = let Reads = ReadsIfRequested (requested_by options) file
 
 -- ---- by what is printed of the documents
 
--- what is printed of the documents that are found: for which numbers, and a piece with this property for each of these
+-- what is printed of the documents that are found, by their numbers: of which items, and a piece with this property for each of these
 pub record Printing : Type 1 where
-  pub numbers : List ℕ → List ℕ
-  pub IsPiece : ℕ → List ℕ → Type 0
+  pub Item : Type 0
+  pub items : List ℕ → List Item
+  pub IsPiece : Item → List ℕ → Type 0
 
 -- The piece is the text of the document with that number, and this end.
 abbrev pub IsEnded : (ℕ → List ℕ → Type 0) → List ℕ → ℕ → List ℕ → Type 0
@@ -141,31 +143,74 @@ IsEnded IsText end p piece = (text : List ℕ) × IsText p text × (piece ≡ te
 
 -- each document, and this end after each
 abbrev pub each_document : (ℕ → List ℕ → Type 0) → List ℕ → Printing
-each_document IsText end = record { numbers = λ ps. ps; IsPiece = IsEnded IsText end }
+each_document IsText end = record { Item = ℕ; items = λ ps. ps; IsPiece = IsEnded IsText end }
 
 -- one piece: how many documents they are, on a line
 abbrev pub their_count : Printing
-their_count = record { numbers = λ ps. length ps ∷ []; IsPiece = λ n piece. piece ≡ decimal n ++ 10 ∷ [] }
+their_count = record { Item = ℕ; items = λ ps. length ps ∷ []; IsPiece = λ n piece. piece ≡ decimal n ++ 10 ∷ [] }
 
--- These are the pieces for these numbers, joined.
-abbrev pub ArePieces : (ℕ → List ℕ → Type 0) → List ℕ → List ℕ → Type 0
+-- what is around the texts of documents: before the first, between two, after each, and after the last
+pub record Around : Type 0 where
+  pub opening : List ℕ
+  pub separator : List ℕ
+  pub ending : List ℕ
+  pub closing : List ℕ
+
+-- a part of what is printed of documents: what is before them, a document, which is the first or a later one, or what is after
+-- them
+pub data Part : Type 0 where
+  opens : Part
+  document : Bool → ℕ → Part
+  closes : Part
+
+-- the documents with these numbers
+abbrev pub document_parts : List ℕ → List Part
+document_parts [] = []
+document_parts (p ∷ ps) = document true p ∷ map (document false) ps
+
+-- all parts of what is printed of these documents
+abbrev pub parts : List ℕ → List Part
+parts ps = opens ∷ (document_parts ps ++ closes ∷ [])
+
+-- what is before a document, which is the first or a later one
+abbrev pub before_document : Around → Bool → List ℕ
+before_document around true = []
+before_document around false = around.separator
+
+-- what is around the texts of documents, as an `Around` in memory has it
+abbrev pub around_of : Slices → Around
+around_of a = record { opening = a.opening.now; separator = a.separator.now; ending = a.ending.now; closing = a.closing.now }
+
+-- The piece is that of the part: a document by its text.
+abbrev pub IsPart : (ℕ → List ℕ → Type 0) → Around → Part → List ℕ → Type 0
+IsPart IsText around opens piece = piece ≡ around.opening
+IsPart IsText around (document first p) piece =
+    (text : List ℕ) × IsText p text × (piece ≡ before_document around first ++ (text ++ around.ending))
+IsPart IsText around closes piece = piece ≡ around.closing
+
+-- each document, and what is around them
+abbrev pub around_documents : (ℕ → List ℕ → Type 0) → Around → Printing
+around_documents IsText around = record { Item = Part; items = parts; IsPiece = IsPart IsText around }
+
+-- These are the pieces for these items, joined.
+abbrev pub ArePieces : {I : Type 0} → (I → List ℕ → Type 0) → List I → List ℕ → Type 0
 ArePieces IsPiece [] text = text ≡ []
 ArePieces IsPiece (n ∷ ns) text =
     (piece : List ℕ) × (rest : List ℕ) × IsPiece n piece × ArePieces IsPiece ns rest × (text ≡ piece ++ rest)
 
--- These are the pieces for the first of these numbers, but not for all of them; or nothing.
-abbrev pub AreFirstPieces : (ℕ → List ℕ → Type 0) → List ℕ → List ℕ → Type 0
-AreFirstPieces IsPiece ns text = (text ≡ [])
-    ⊎ ((printed : List ℕ) × (n : ℕ) × (others : List ℕ) × (ns ≡ printed ++ n ∷ others) × ArePieces IsPiece printed text)
+-- These are the pieces for the first of these items, but not for all of them; or nothing.
+abbrev pub AreFirstPieces : {I : Type 0} → (I → List ℕ → Type 0) → List I → List ℕ → Type 0
+AreFirstPieces {I} IsPiece ns text = (text ≡ [])
+    ⊎ ((printed : List I) × (n : I) × (others : List I) × (ns ≡ printed ++ n ∷ others) × ArePieces IsPiece printed text)
 
--- These are the pieces for the first of these numbers, and this is the next.
-abbrev pub IsNextPiece : (ℕ → List ℕ → Type 0) → List ℕ → List ℕ → List ℕ → Type 0
-IsNextPiece IsPiece ns text next = (printed : List ℕ) × (n : ℕ) × (others : List ℕ) × (ns ≡ printed ++ n ∷ others)
+-- These are the pieces for the first of these items, and this is the next.
+abbrev pub IsNextPiece : {I : Type 0} → (I → List ℕ → Type 0) → List I → List ℕ → List ℕ → Type 0
+IsNextPiece {I} IsPiece ns text next = (printed : List I) × (n : I) × (others : List I) × (ns ≡ printed ++ n ∷ others)
     × ArePieces IsPiece printed text × IsPiece n next
 
 -- A run of `find` for a cursor prints its first batch piece by piece.
 abbrev pub batch_run : Printing → Option ℕ → OpenCursor → Run
-batch_run printing size c = let ns = printing.numbers (at_most size c.remaining) in record {
+batch_run printing size c = let ns = printing.items (at_most size c.remaining) in record {
   IsOutput = λ output. (text : List ℕ) × ArePieces printing.IsPiece ns text × (output ≡ output_of_text size c text);
   IsNext = IsNextPiece printing.IsPiece ns;
   IsBegun = AreFirstPieces printing.IsPiece ns;

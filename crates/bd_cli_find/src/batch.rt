@@ -102,7 +102,7 @@ pub fn print_count<O: Output, E: Output>(
 }
 
 /// The first batch of a search, by the first cursor of a session; without a size all of its documents.
-fn first_batch(
+pub(crate) fn first_batch(
     alloc: Global,
     session: &mut Session,
     search: Search,
@@ -247,7 +247,7 @@ fn piece_at<'a, P: PlacePrinter>(
 }
 
 /// Reports how many documents a batch has, whether nothing remains, and the token after it. It takes no memory.
-fn report_batch<E: Output>(batch: &Batch, err: &mut E) -> Status
+pub(crate) fn report_batch<E: Output>(batch: &Batch, err: &mut E) -> Status
     ensures { ReportsMessage (over E.state err.old err.new)
         (find_count_line (length batch.now.places.items) batch.now.end
         (option_map positioned_token batch.now.token)) Done result }

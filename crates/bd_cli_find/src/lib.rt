@@ -26,14 +26,17 @@
 //! - `find`: the command, and searches of the parts of a collection.
 //! - `options`: what its arguments request, with a query from their text or from elsewhere: `specs/Options.antt`.
 //! - `batch`: the first batch of a dump, and its output, by any printer of documents, or how many they are.
+//! - `around`: the same with what is around the documents, such as the brackets of an array.
 //! - `laws`: the parts have the output of the whole.
 #![tactic(auto)]
 
+mod around;
 mod batch;
 pub mod find;
 mod laws;
 mod options;
 
+pub use around::{Around, print_around};
 pub use batch::{print_count, print_found};
 pub use laws::parts_print_the_whole;
 pub use options::{Search, SearchFault, json_message, read_search_with, report_refused};

@@ -56,12 +56,12 @@ IsFirstBatch size q token (Ok batch) =
     (ps : List ℕ) × (places_from q token ≡ Ok ps) × IsBatchOf size (cursor_for 1 q token ps) (given_batch batch)
 IsFirstBatch size q token (Err refused) = IsRefusedPart (places_from q token) refused
 
--- The writer took the pieces for these places.
-abbrev pub WritesPieces : (ℕ → List ℕ → Type 0) → List ℕ → Over Writer → Type 0
+-- The writer took the pieces for these items.
+abbrev pub WritesPieces : {I : Type 0} → (I → List ℕ → Type 0) → List I → Over Writer → Type 0
 WritesPieces IsPiece ps out = (text : List ℕ) × ArePieces IsPiece ps text × TakesText out text
 
--- The writer took the pieces for the first of these places, and then memory ran out, or a write failed in the next.
-abbrev pub StopsAmong : (ℕ → List ℕ → Type 0) → List ℕ → Over Writer → OutputFault → Type 0
+-- The writer took the pieces for the first of these items, and then memory ran out, or a write failed in the next.
+abbrev pub StopsAmong : {I : Type 0} → (I → List ℕ → Type 0) → List I → Over Writer → OutputFault → Type 0
 StopsAmong IsPiece ps out NoMemory = (text : List ℕ) × AreFirstPieces IsPiece ps text × TakesText out text
 StopsAmong IsPiece ps out Unwritten =
     (text : List ℕ) × (next : List ℕ) × IsNextPiece IsPiece ps text next × WriteFailsAfter out text next
