@@ -9,7 +9,6 @@ use Rattle.bd_bson_check.specs.{Dump.IsDump, Fault.fault_view}
 use Rattle.bd_cursor_model.specs.Session.{Query}
 use Rattle.bd_cursor_request.specs.{Request.Request, declared.token.Token.Token, Refused.reason_of}
 use Rattle.bd_cli_args.specs.FindOptions.{FindOptions}
-use Rattle.bd_cli_args.specs.declared.wide_line.Form.{Form}
 use Rattle.bd_cli_scan.specs.declared.input.InputFault.{InputFault}
 use Rattle.bd_cli_scan.specs.declared.input.InputFault.TheVariants as input_faults
 use Rattle.bd_cli_scan.specs.{Input.ReadsInput, Run.Prints, Run.ReportsMessage, Run.partial_run, declared.output.Status.Status}
@@ -20,21 +19,20 @@ use Rattle.bd_cli_find.specs.Find.{Printing, found_run, places_from, places_run}
 use Rattle.bd_cli_find.specs.Options.{refused_text}
 use Rattle.bd_cli_find.specs.declared.options.SearchFault.{SearchFault}
 use Rattle.bd_cli_find.specs.declared.options.SearchFault.TheVariants as faults
-use Rattle.bd_cli_print.specs.Printer.{IsNamedText}
 use Rattle.bd_cli_find.proofs.{BatchLemmas.five_each, FindLemmas.refusal_is_output, OptionsLemmas.explain_refusal}
 use Rattle.bd_wide_rank.specs.Rank.{code}
-use Rattle.bd_wide_copy.specs.{Copy.number_coded, Dump.IsDocumentAt, Dump.coded_documents}
+use Rattle.bd_wide_copy.specs.{Copy.number_coded, Dump.coded_documents}
 use Rattle.bd_wide_order.specs.{Query.renumber_request, Ranks.table_codes, Renumber.DocumentsAreOf}
-use Rattle.bd_wide_find.specs.Find.{FindCase, IsAccepted, case_run, printing_in, wide_find_run}
+use Rattle.bd_wide_find.specs.Find.{FindCase, IsAccepted, case_run, wide_find_run}
 use Rattle.bd_wide_find.specs.Find as cases
 use Rattle.bd_wide_find.specs.Load.{FailsToLoadWide}
 use Rattle.bd_wide_find.specs.inside.Fault.{IsReported, ReportsAs}
 use Rattle.bd_wide_find.proofs.AnswerLemmas.{coded_answers}
 
-module _ {program : List ℕ} (form : Form) (text : List ℕ) (options : FindOptions) (file : Over Reader) where
+module _ {program : List ℕ} (printing : List ℕ → Printing) (text : List ℕ) (options : FindOptions) (file : Over Reader) where
   -- a run of a case is a run of `find`
-  pub of_case : (c : FindCase text options file) {out err : Over Writer} {status : Status} → Prints program (case_run form c) out err status
-      → Prints program (wide_find_run form text options file) out err status
+  pub of_case : (c : FindCase text options file) {out err : Over Writer} {status : Status} → Prints program (case_run printing c) out err status
+      → Prints program (wide_find_run printing text options file) out err status
   of_case c (inl (output, is, took, reported)) = inl (output, (c, is), took, reported)
   of_case c (inr (inl (printed, piece, next, failed, reported))) = inr (inl (printed, piece, (c, next), failed, reported))
   of_case c (inr (inr (printed, begun, took, reported))) = inr (inr (printed, inl (c, begun), took, reported))
@@ -43,15 +41,15 @@ module _ {program : List ℕ} (form : Form) (text : List ℕ) (options : FindOpt
     -- memory ran out before anything was printed
     pub runs_out : (file.after ≡ file.before) ⊎ ((bytes : List ℕ) × ReadsInput file (Ok bytes))
         → ReportsMessage (between err_old err_new) (error_line program no_memory) Failed status
-        → Prints program (wide_find_run form text options file) (between out out) (between err_old err_new) status
+        → Prints program (wide_find_run printing text options file) (between out out) (between err_old err_new) status
     runs_out read reported = inr (inr ([], inr (refl, read), takes_none out, reported))
 
     -- a fault of the options was reported
     pub reports_fault : (IsMessage : List ℕ → Type 0) (case_of : (message : List ℕ) → IsMessage message → FindCase text options file)
-        → ((message : List ℕ) (is : IsMessage message) → case_run form (case_of message is) ≡ partial_run (refusal_output message))
+        → ((message : List ℕ) (is : IsMessage message) → case_run printing (case_of message is) ≡ partial_run (refusal_output message))
         → (file.after ≡ file.before) ⊎ ((bytes : List ℕ) × ReadsInput file (Ok bytes))
         → (fault : SearchFault) → ReportsAs IsMessage fault → IsReported program (between err_old err_new) status fault
-        → Prints program (wide_find_run form text options file) (between out out) (between err_old err_new) status
+        → Prints program (wide_find_run printing text options file) (between out out) (between err_old err_new) status
     reports_fault IsMessage case_of runs read faults.NoMemory is reported = runs_out read reported
     reports_fault IsMessage case_of runs read (faults.Refused refused) is reported =
         let message = refused_text (reason_of refused) in
@@ -65,7 +63,7 @@ module _ {program : List ℕ} (form : Form) (text : List ℕ) (options : FindOpt
     -- the input is no dump in memory, which is reported
     pub load_reported : (a : IsAccepted text options) (fault : InputFault) → FailsToLoadWide file fault
         → ReportsLoadFault program (between err_old err_new) status fault
-        → Prints program (wide_find_run form text options file) (between out out) (between err_old err_new) status
+        → Prints program (wide_find_run printing text options file) (between out out) (between err_old err_new) status
     load_reported a (input_faults.Unread fault) (inl read) (inl reported) =
         of_case (cases.unread fault a read) (refusal_is_output program out out err_old err_new status (read_words fault) (inl reported))
     load_reported a (input_faults.Unread fault) (inr (memory, read)) (inl reported) =
@@ -89,15 +87,14 @@ coded_runs table r ds are copy text printing size token =
 -- ---- the dump itself
 
 -- a run over a dump in memory is one over its documents
-pub found_in_dump : {program : List ℕ} {out err : Over Writer} {status : Status} (form : Form) (w : Request × Option Token) (taken size : Option ℕ) (read bytes : List ℕ)
+pub found_in_dump : {program : List ℕ} {out err : Over Writer} {status : Status} (printing : List ℕ → Printing) (w : Request × Option Token) (taken size : Option ℕ) (read bytes : List ℕ)
     (es ds : List Doc) → taken ≡ size → read ≡ bytes → es ≡ ds
-    → Prints program (found_run (printing_in form (IsNamedText es) (IsDocumentAt read)) taken w read es) out err status
-    → Prints program (found_run (printing_in form (IsNamedText ds) (IsDocumentAt bytes)) size w bytes ds) out err status
-found_in_dump {program} {out} {err} {status} form w taken size read bytes es ds sizes reads same prints =
-    let printing = λ (xs : List Doc) (x : List ℕ). printing_in form (IsNamedText xs) (IsDocumentAt x) in
-    subst (λ (xs : List Doc). Prints program (found_run (printing xs bytes) size w bytes xs) out err status) same
-    (subst (λ (x : List ℕ). Prints program (found_run (printing es x) size w x es) out err status) reads
-    (subst (λ (x : Option ℕ). Prints program (found_run (printing es read) x w read es) out err status) sizes prints))
+    → Prints program (found_run (printing read) taken w read es) out err status
+    → Prints program (found_run (printing bytes) size w bytes ds) out err status
+found_in_dump {program} {out} {err} {status} printing w taken size read bytes es ds sizes reads same prints =
+    subst (λ (xs : List Doc). Prints program (found_run (printing bytes) size w bytes xs) out err status) same
+    (subst (λ (x : List ℕ). Prints program (found_run (printing x) size w x es) out err status) reads
+    (subst (λ (x : Option ℕ). Prints program (found_run (printing read) x w read es) out err status) sizes prints))
 
 -- no dump has more documents than a batch may have
 pub few_documents : (ds : List Doc) (bytes : List ℕ) → IsDump ds bytes → length ds ≤ greatest_count

@@ -8,18 +8,16 @@ use Rattle.bd_bson_dump.specs.Collection.{bytes_of as bytes_of_dump, documents}
 use Rattle.bd_bson_dump.specs.declared.collection.Dump.{Dump}
 use Rattle.bd_cursor_request.specs.{Request.Request, Request.request_view, declared.token.Token.Token}
 use Rattle.bd_cli_args.specs.FindOptions.{FindOptions}
-use Rattle.bd_cli_args.specs.declared.wide_line.Form.{Form}
-use Rattle.bd_cli_print.specs.Printer.{IsNamedText}
 use Rattle.bd_cli_scan.specs.{Input.ReadsInput, Run.Prints, declared.output.Status.Status}
 use Rattle.bd_cli_find.specs.Find.{Printing, found_run}
 use Rattle.bd_cli_find.specs.declared.options.SearchFault.{SearchFault}
 use Rattle.bd_wide_rank.specs.{Rank.code, Worth.worth}
-use Rattle.bd_wide_copy.specs.{Classes.classed, Copy.number_as, Copy.number_coded, Dump.AreJoinedBy, Dump.IsCount, Dump.IsDocumentAt, Dump.coded_documents}
+use Rattle.bd_wide_copy.specs.{Classes.classed, Copy.number_as, Copy.number_coded, Dump.AreJoinedBy, Dump.IsCount, Dump.coded_documents}
 use Rattle.bd_wide_copy.proofs.StartsLemmas.{starts_count}
 use Rattle.bd_wide_copy.proofs.ClassLemmas.{joined_widened}
 use Rattle.bd_wide_copy.specs.declared.longs.Longs.{Longs}
 use Rattle.bd_wide_order.specs.{Query.renumber_request, Ranks.table_codes}
-use Rattle.bd_wide_find.specs.{Find.IsAccepted, Find.IsRequestOver, Find.IsRefusedOver, Find.HasValues, Find.printing_in, Find.request_by_value, Find.wide_find_run, Printer.IsWideText}
+use Rattle.bd_wide_find.specs.{Find.IsAccepted, Find.IsRequestOver, Find.IsRefusedOver, Find.HasValues, Find.request_by_value, Find.wide_find_run}
 use Rattle.bd_wide_find.specs.Find as cases
 use Rattle.bd_wide_find.specs.declared.{coded.Coded.Coded, question.Question.Question}
 use Rattle.bd_wide_find.specs.Coded.{CopiesDump}
@@ -64,43 +62,40 @@ module _ (text : List ℕ) (options : FindOptions) (q : Question) (requests : Re
     requested = requests.requested;
   }
 
-  module _ (form : Form) (program : List ℕ) (file : Over Reader) (bytes : List ℕ) (read : ReadsInput file (Ok bytes)) where
+  module _ (printing : List ℕ → Printing) (program : List ℕ) (file : Over Reader) (bytes : List ℕ) (read : ReadsInput file (Ok bytes)) where
     pub plain_run : {out err : Over Writer} {status : Status} (ds : List Doc) → q.query.numbers.items ≡ [] → IsDump ds bytes
-        → Prints program (found_run (printing_in form (IsNamedText ds) (IsDocumentAt bytes)) options.batch (request_view q.search.request, q.search.token) bytes ds) out err status
-        → Prints program (wide_find_run form text options file) out err status
+        → Prints program (found_run (printing bytes) options.batch (request_view q.search.request, q.search.token) bytes ds) out err status
+        → Prints program (wide_find_run printing text options file) out err status
     unfolding accepted
-    plain_run ds none dump prints = of_case form text options file (cases.plain accepted bytes ds read none dump) prints
+    plain_run ds none dump prints = of_case printing text options file (cases.plain accepted bytes ds read none dump) prints
 
     pub refused_run : HasValues q.query.numbers.items bytes → (out err_old err_new : Writer) (status : Status) (fault : SearchFault)
         → ReportsAs (IsRefusedOver options q.query.numbers.items (pairs q.query.wholes) (pairs q.query.texts) bytes) fault
         → IsReported program (between err_old err_new) status fault
-        → Prints program (wide_find_run form text options file) (between out out) (between err_old err_new) status
+        → Prints program (wide_find_run printing text options file) (between out out) (between err_old err_new) status
     unfolding accepted
     refused_run values out err_old err_new status fault is reported =
-        reports_fault form text options file out err_old err_new status (IsRefusedOver options q.query.numbers.items (pairs q.query.wholes) (pairs q.query.texts) bytes)
+        reports_fault printing text options file out err_old err_new status (IsRefusedOver options q.query.numbers.items (pairs q.query.wholes) (pairs q.query.texts) bytes)
         (λ message of. cases.refused_over accepted bytes message read values of) (λ message of. refl) (inr (bytes, read)) fault is reported
 
     module _ (c : Coded) (s : SearchesCopy options q.query.numbers.items (pairs q.query.wholes) (pairs q.query.texts) bytes c) where
       requested : IsRequestOver options q.query.numbers.items (pairs q.query.wholes) (pairs q.query.texts) bytes
       requested = record { two_classes = s.two_classes; ds = s.ds; table = s.table; has = s.has; requests = s.searches.0; copy = bytes_of_dump c.copy; copied = s.copies.copied }
 
-      abbrev printing : Printing
-      printing = printing_in form (IsWideText bytes) (IsDocumentAt bytes)
-
       pub by_value_run : HasValues q.query.numbers.items bytes → {out err : Over Writer} {status : Status} (taken : Option ℕ) → taken ≡ options.batch
-          → Prints program (found_run printing taken (request_view c.search.request, c.search.token) (bytes_of_dump c.copy) (documents c.copy)) out err status
-          → Prints program (wide_find_run form text options file) out err status
+          → Prints program (found_run (printing bytes) taken (request_view c.search.request, c.search.token) (bytes_of_dump c.copy) (documents c.copy)) out err status
+          → Prints program (wide_find_run printing text options file) out err status
       unfolding accepted requested
       by_value_run values {out} {err} {status} taken size prints =
           let request = s.searches.0 in
           let r = request_by_value s.table request.request request.coded in
           let coded = renumber_request (table_codes s.table) request.coded.text r in
-          let sized = subst (λ (x : Option ℕ). Prints program (found_run printing x (request_view c.search.request, c.search.token) (bytes_of_dump c.copy) (documents c.copy)) out err status) size prints in
-          let viewed = subst (λ (x : Request). Prints program (found_run printing options.batch (x, c.search.token) (bytes_of_dump c.copy) (documents c.copy)) out err status) s.searches.2 sized in
-          let resumed = subst (λ (x : Option Token). Prints program (found_run printing options.batch (coded, x) (bytes_of_dump c.copy) (documents c.copy)) out err status) s.searches.1 viewed in
-          let copied = subst (λ (x : List Doc). Prints program (found_run printing options.batch (coded, request.token) (bytes_of_dump c.copy) x) out err status)
+          let sized = subst (λ (x : Option ℕ). Prints program (found_run (printing bytes) x (request_view c.search.request, c.search.token) (bytes_of_dump c.copy) (documents c.copy)) out err status) size prints in
+          let viewed = subst (λ (x : Request). Prints program (found_run (printing bytes) options.batch (x, c.search.token) (bytes_of_dump c.copy) (documents c.copy)) out err status) s.searches.2 sized in
+          let resumed = subst (λ (x : Option Token). Prints program (found_run (printing bytes) options.batch (coded, x) (bytes_of_dump c.copy) (documents c.copy)) out err status) s.searches.1 viewed in
+          let copied = subst (λ (x : List Doc). Prints program (found_run (printing bytes) options.batch (coded, request.token) (bytes_of_dump c.copy) x) out err status)
           (s.copies.documents_are s.ds s.has.are) resumed in
-          of_case form text options file (cases.by_value accepted bytes read values requested)
+          of_case printing text options file (cases.by_value accepted bytes read values requested)
           (subst (λ run. Prints program run out err status)
           (coded_runs s.table r s.ds (numbers_are_of s.table s.ds s.has.same)
-          (bytes_of_dump c.copy) request.coded.text printing options.batch request.token) copied)
+          (bytes_of_dump c.copy) request.coded.text (printing bytes) options.batch request.token) copied)

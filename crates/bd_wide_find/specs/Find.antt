@@ -10,16 +10,17 @@ use Rattle.bd_extjson_fault.specs.declared.json_fault.JsonFaultKind.TheVariants.
 use Rattle.bd_cursor_request.specs.{Request.Request, declared.token.Token.Token}
 use Rattle.bd_cli_args.specs.FindOptions.{FindOptions}
 use Rattle.bd_cli_args.specs.declared.wide_line.Form.{Form}
-use Rattle.bd_cli_print.specs.Printer.{IsNamedText}
 use Rattle.bd_cli_scan.specs.{Input.ReadsInput, Run.Run, Run.partial_run, Output.fault_text, Output.refusal_output}
-use Rattle.bd_cli_find.specs.{Find.Printing, Find.each_document, Find.found_run, Find.their_count, Options.json_fault_text, Options.requested_with}
+use Rattle.bd_cli_find.specs.Find.{Around, Printing, around_documents, each_document, found_run, their_count}
+use Rattle.bd_cli_find.specs.Options.{json_fault_text, requested_with}
+use Rattle.bd_wide_layout.specs.Layout.{LayoutView, closing, ending, opening, separator}
 use Rattle.bd_wide_number.specs.declared.number.Number.{Number}
 use Rattle.bd_wide_rank.specs.{Rank.AreDistinct, Rank.HaveSame, Rank.code, Worth.worth}
 use Rattle.bd_wide_copy.specs.declared.longs.Longs.{Longs}
 use Rattle.bd_wide_copy.specs.{Classes.classed, Dump.AreJoinedBy, Dump.IsCopyOfDump, Dump.IsDocumentAt, Dump.IsFirstFault, Numbers.document_numbers}
 use Rattle.bd_wide_substitute.specs.Both.{IsRead, IsUnread}
 use Rattle.bd_wide_query.specs.{Coded.coded_query, Coded.valued_query, Nan.beside_nan, Types.has_two_classes, Types.longs_of}
-use Rattle.bd_wide_find.specs.Printer.{IsWideText}
+use Rattle.bd_wide_find.specs.Printer.{IsLaidOutText}
 
 -- ---- what is requested
 
@@ -119,31 +120,40 @@ pub data FindCase (text : List ℕ) (options : FindOptions) (file : Over Reader)
   refused_over : (a : IsAccepted text options) (bytes message : List ℕ) → ReadsInput file (Ok bytes) → HasValues a.numbers bytes
       → IsRefusedOver options a.numbers a.wholes a.texts bytes message → FindCase text options file
 
--- what a form prints of the documents that are found, by their texts or their bytes: these texts, one a line; these bytes, joined; or
+-- what is around the texts of documents in a layout
+abbrev pub around_in : LayoutView → Around
+around_in layout = record { opening = opening layout; separator = separator layout; ending = ending layout; closing = closing layout }
+
+-- what a form prints of the documents that are found, by their texts or their bytes: these texts, in a layout; these bytes, joined; or
 -- how many documents they are
-abbrev pub printing_in : Form → (ℕ → List ℕ → Type 0) → (ℕ → List ℕ → Type 0) → Printing
-printing_in Form.Lines IsText AreBytes = each_document IsText (10 ∷ [])
-printing_in Form.Bson IsText AreBytes = each_document AreBytes []
-printing_in Form.Count IsText AreBytes = their_count
+abbrev pub printing_in : LayoutView → Form → (ℕ → List ℕ → Type 0) → (ℕ → List ℕ → Type 0) → Printing
+printing_in layout Form.Lines IsText AreBytes = around_documents IsText (around_in layout)
+printing_in layout Form.Bson IsText AreBytes = each_document AreBytes []
+printing_in layout Form.Count IsText AreBytes = their_count
 
--- the run of a case in a form: its message alone, or the first batch of the documents that are found, as they are in the dump
+-- what a form prints of the documents of a dump with these bytes: each as it is in the dump
+abbrev pub printing_of : LayoutView → Form → List ℕ → Printing
+printing_of layout form bytes = printing_in layout form (IsLaidOutText layout bytes) (IsDocumentAt bytes)
+
+-- the run of a case, by what is printed of documents of a dump: its message alone, or the first batch of the documents that are found
 abbrev pub case_run : {text : List ℕ} {options : FindOptions} {file : Over Reader}
-    → Form → FindCase text options file → Run
-case_run form (refused message _ _) = partial_run (refusal_output message)
-case_run form (unread fault _ _) = partial_run (refusal_output (read_words fault))
-case_run form (faulty bytes fault _ _ _) = partial_run (refusal_output (fault_text fault.document (fault_view fault)))
-case_run {text} {options} form (plain a bytes ds _ _ _) =
-    found_run (printing_in form (IsNamedText ds) (IsDocumentAt bytes)) options.batch (a.request, a.token) bytes ds
-case_run {text} {options} form (by_value a bytes _ _ over) =
-    found_run (printing_in form (IsWideText bytes) (IsDocumentAt bytes)) options.batch
+    → (List ℕ → Printing) → FindCase text options file → Run
+case_run printing (refused message _ _) = partial_run (refusal_output message)
+case_run printing (unread fault _ _) = partial_run (refusal_output (read_words fault))
+case_run printing (faulty bytes fault _ _ _) = partial_run (refusal_output (fault_text fault.document (fault_view fault)))
+case_run {text} {options} printing (plain a bytes ds _ _ _) =
+    found_run (printing bytes) options.batch (a.request, a.token) bytes ds
+case_run {text} {options} printing (by_value a bytes _ _ over) =
+    found_run (printing bytes) options.batch
     (request_by_value over.table over.requests.request over.requests.coded, over.requests.token) over.copy over.ds
-case_run form (refused_over a bytes message _ _ _) = partial_run (refusal_output message)
+case_run printing (refused_over a bytes message _ _ _) = partial_run (refusal_output message)
 
--- A run of `find` is that of its case; or memory ran out before anything was printed, and the file was read to its end or not at all.
-abbrev pub wide_find_run : Form → List ℕ → FindOptions → Over Reader → Run
-wide_find_run form text options file = record {
-  IsOutput = λ output. (c : FindCase text options file) × (case_run form c).IsOutput output;
-  IsNext = λ printed piece. (c : FindCase text options file) × (case_run form c).IsNext printed piece;
-  IsBegun = λ printed. ((c : FindCase text options file) × (case_run form c).IsBegun printed)
+-- A run of `find`, by what it prints of documents of a dump, is that of its case; or memory ran out before anything was printed, and the
+-- file was read to its end or not at all.
+abbrev pub wide_find_run : (List ℕ → Printing) → List ℕ → FindOptions → Over Reader → Run
+wide_find_run printing text options file = record {
+  IsOutput = λ output. (c : FindCase text options file) × (case_run printing c).IsOutput output;
+  IsNext = λ printed piece. (c : FindCase text options file) × (case_run printing c).IsNext printed piece;
+  IsBegun = λ printed. ((c : FindCase text options file) × (case_run printing c).IsBegun printed)
       ⊎ ((printed ≡ []) × ((file.after ≡ file.before) ⊎ ((bytes : List ℕ) × ReadsInput file (Ok bytes))));
 }

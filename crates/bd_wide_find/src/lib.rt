@@ -17,6 +17,11 @@
 //!     index: None,
 //!     after: None,
 //! };
+//! let layout = Layout {
+//!     format: JsonFormat::Canonical,
+//!     paths: None,
+//!     is_array: false,
+//! };
 //! let mut file = MemoryInput::new(bytes, 28, None);
 //! let mut buffer = [0; 100];
 //! let mut out = MemoryOutput::new(&mut buffer, 100, None);
@@ -25,6 +30,7 @@
 //! let status = find(
 //!     alloc,
 //!     "bsonwide",
+//!     &layout,
 //!     Form::Lines,
 //!     b"{\"a\":{\"$lt\":1.75}}",
 //!     &options,
@@ -40,8 +46,8 @@
 //! - `question`: what its query and its options ask.
 //! - `load`: `load_wide`, a dump of all types in memory: `specs/Load.antt`.
 //! - `coded`: the search with codes, and the copy that is searched: `specs/Coded.antt`.
-//! - `printer`: `WidePrinter`, which prints the documents of the dump: `specs/Printer.antt`; `WideBytes` and `NamedBytes`, which print
-//!   their bytes.
+//! - `printer`: what prints the documents of the dump, in a layout, and `WidePrinter`, in canonical form: `specs/Printer.antt`;
+//!   `WideBytes` and `NamedBytes`, which print their bytes.
 //! - `laws`: a request with codes selects of the copy what the request by value selects of the documents.
 #![tactic(auto)]
 

@@ -6,8 +6,10 @@ use bd_cli_print::PlacePrinter;
 use bd_cli_scan::Status;
 use bd_io_device::{MemoryInput, MemoryOutput};
 use bd_wide_copy::read_wide_dump;
+use bd_wide_dump::JsonFormat;
 use bd_wide_find::WidePrinter;
 use bd_wide_find::find::find;
+use bd_wide_layout::Layout;
 use std::test::Fail;
 
 #[test]
@@ -40,6 +42,11 @@ fn find_by_value(rt: HostRuntime) -> Result<(), Fail> {
         index: None,
         after: None,
     };
+    let layout = Layout {
+        format: JsonFormat::Canonical,
+        paths: None,
+        is_array: false,
+    };
     let mut file = MemoryInput::new(bytes, 28, None);
     let mut buffer = [0; 100];
     let mut out = MemoryOutput::new(&mut buffer, 100, None);
@@ -48,6 +55,7 @@ fn find_by_value(rt: HostRuntime) -> Result<(), Fail> {
     let status = find(
         alloc,
         "bsonwide",
+        &layout,
         Form::Lines,
         b"{\"a\":{\"$lt\":1.75}}",
         &options,

@@ -5,7 +5,8 @@ use Rattle.bd_wide_copy.specs.Dump.{bytes_of}
 use Rattle.bd_value.specs.{Tree.fields_of, View.pairs}
 use Rattle.bd_wide_query.specs.Types.{longs_of}
 use Rattle.bd_wide_number.specs.declared.number.Number.{Number}
-use Rattle.bd_wide_find.specs.Find.{HasValues}
+use Rattle.bd_wide_find.specs.Find.{HasValues, printing_of}
+use Rattle.bd_wide_layout.specs.Layout.{layout_view}
 use Rattle.bd_wide_find.proofs.SearchLemmas.{by_value_run, can_print_copied, few_copied, plain_run, refused_run}
 use Rattle.bd_wide_find.proofs.find.answer.Goals.{else-is_empty-via-then-is_empty+else-is_plain, else-is_empty-via-else-is_empty}
 use Rattle.bd_wide_find.proofs.find.answer.Goals as goal
@@ -14,7 +15,7 @@ pub returns-then-is_plain : goal.returns-then-is_plain
 returns-then-is_plain g c = λ text file requests read.
     let (ds, dump) = c.is_plain.ensures.0 c.if-is_plain.true in
     let none : c.args.question.query.numbers.items ≡ [] = search (rules, nat_tests, nil_from_length) in
-    plain_run text c.args.options.now c.args.question requests c.args.form c.args.program.now file (bytes_of c.args.dump) read ds none dump (c.answer_plain.ensures ds dump)
+    plain_run text c.args.options.now c.args.question requests (printing_of (layout_view c.args.layout.now) c.args.form) c.args.program.now file (bytes_of c.args.dump) read ds none dump (c.answer_plain.ensures ds dump)
 
 pub print_form-requires-clause-within_limit : goal.print_form-requires-clause-within_limit
 print_form-requires-clause-within_limit g c =
@@ -41,7 +42,7 @@ returns-in-Ok g c = λ text file requests read.
           omega (arith, c.args.question.query.numbers.ok.0, ap (λ (xs : List Number). length xs) none) in
           true≢false (sym (ap (λ (n : ℕ). n == 0) zero) ∙ sym c.is_empty.ensures ∙ w.if-is_empty.false)
     ] in
-    by_value_run text c.args.options.now c.args.question requests c.args.form c.args.program.now file (bytes_of c.args.dump) read c.in-Ok.field-0 c.in-Ok.ensures.coded
+    by_value_run text c.args.options.now c.args.question requests (printing_of (layout_view c.args.layout.now) c.args.form) c.args.program.now file (bytes_of c.args.dump) read c.in-Ok.field-0 c.in-Ok.ensures.coded
     values c.options.inside.batch batch c.print_form.ensures
 
 pub returns : goal.returns
@@ -53,5 +54,5 @@ returns g c = λ text file requests read.
           omega (arith, c.args.question.query.numbers.ok.0, ap (λ (xs : List Number). length xs) none) in
           true≢false (sym (ap (λ (n : ℕ). n == 0) zero) ∙ sym c.is_empty.ensures ∙ w.if-is_empty.false)
     ] in
-    refused_run text c.args.options.now c.args.question requests c.args.form c.args.program.now file (bytes_of c.args.dump) read values (g.O.Output.state c.args.out.now)
+    refused_run text c.args.options.now c.args.question requests (printing_of (layout_view c.args.layout.now) c.args.form) c.args.program.now file (bytes_of c.args.dump) read values (g.O.Output.state c.args.out.now)
     (g.E.Output.state c.args.err.now) (g.E.Output.state c.report_fault.new.err) c.report_fault.result c.in-Err.fault c.in-Err.ensures.fault c.report_fault.ensures

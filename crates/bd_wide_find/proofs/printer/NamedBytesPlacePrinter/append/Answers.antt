@@ -12,4 +12,4 @@ document-requires-clause-inside c =
 pub returns-clause-text : goal.returns-clause-text
 returns-clause-text c =
     bytes_appended c.args.buffer.now.items c.append_few.new.out.items c.args.end c.document.result.now (IsDocumentAt (bytes_of c.args.dump.now) c.args.place)
-    (subst (λ (bytes : List ℕ). IsDocumentAt bytes c.args.place c.document.result.now) c.bytes.ensures c.document.ensures) c.append_few.result c.append_few.ensures.text
+    (subst (λ (bytes : List ℕ). IsDocumentAt bytes c.args.place c.document.result.now) c.bytes.ensures c.document.ensures.document) c.append_few.result c.append_few.ensures.text
