@@ -26,13 +26,17 @@ _bsonwide_options() {
 	local word=$1 options=$2 option='' is_file_there='' at=2
 	while ((at < COMP_CWORD)); do
 		case ${COMP_WORDS[at]} in
-		--query | --queryFile | --sort | --skip | --limit | --batch | --index | --after | --jsonFormat)
+		--query | --queryFile | --sort | --skip | --limit | --batch | --index | --after | --jsonFormat | --fields)
 			option=${COMP_WORDS[at]}
 			options=${options/ $option / }
 			case $option in
 			--batch) options=${options/ --count / } ;;
 			--query) options=${options/ --queryFile / } ;;
 			--queryFile) options=${options/ --query / } ;;
+			--jsonFormat | --fields)
+				options=${options/ --bson / }
+				options=${options/ --count / }
+				;;
 			esac
 			((at += 1))
 			if [[ ${COMP_WORDS[at]} == = ]]; then
@@ -40,9 +44,15 @@ _bsonwide_options() {
 			fi
 			;;
 		--byValue) options=${options/ --byValue / } ;;
-		--bson | --count)
+		--jsonArray | --noId)
+			options=${options/ ${COMP_WORDS[at]} / }
 			options=${options/ --bson / }
 			options=${options/ --count / }
+			;;
+		--bson | --count)
+			for option in bson count jsonFormat jsonArray fields noId; do
+				options=${options/ --$option / }
+			done
 			if [[ ${COMP_WORDS[at]} == --count ]]; then
 				options=${options/ --batch / }
 			fi
@@ -81,9 +91,9 @@ _bsonwide() {
 		return
 	fi
 	case $command in
-	dump) options=' --jsonFormat ' ;;
+	dump) options=' --jsonFormat --jsonArray --fields --noId ' ;;
 	serve) options=' --byValue ' ;;
-	find) options=' --query --queryFile --sort --skip --limit --batch --index --after --bson --count ' ;;
+	find) options=' --query --queryFile --sort --skip --limit --batch --index --after --jsonFormat --jsonArray --fields --noId --bson --count ' ;;
 	esac
 	if [[ -n $options ]]; then
 		_bsonwide_options "$word" "$options"

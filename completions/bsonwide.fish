@@ -14,7 +14,7 @@ function __bsonwide_needs_file
     for word in $words[3..]
         if test $is_value = 1
             set is_value 0
-        else if contains -- $word --query --queryFile --sort --skip --limit --batch --index --after --jsonFormat
+        else if contains -- $word --query --queryFile --sort --skip --limit --batch --index --after --jsonFormat --fields
             set is_value 1
         else if not string match -q -- '--*' $word
             return 1
@@ -28,6 +28,18 @@ function __bsonwide_needs
     __bsonwide_command $argv[1]; and not string match -q -r -- "^--$argv[2](=|\$)" (commandline -opc)
 end
 
+# Whether it is `dump` or `find` without this option, and without `--bson` and `--count`.
+function __bsonwide_lays_out
+    contains -- (commandline -opc)[2] dump find; or return
+    __bsonwide_needs (commandline -opc)[2] $argv[1]
+    and not string match -q -r -- '^--(bson|count)$' (commandline -opc)
+end
+
+# Whether no option of a layout is there.
+function __bsonwide_no_layout
+    not string match -q -r -- '^--(jsonFormat|jsonArray|fields|noId)(=|$)' (commandline -opc)
+end
+
 complete -c bsonwide -f
 complete -c bsonwide -n 'not __bsonwide_command dump check pack find serve' -a dump -d 'print each document as a line'
 complete -c bsonwide -n 'not __bsonwide_command dump check pack find serve' -a check -d 'tell the first fault of each document'
@@ -38,7 +50,10 @@ complete -c bsonwide -n 'not __bsonwide_command dump check pack find serve' -s h
 complete -c bsonwide -n '__bsonwide_needs_file dump check pack find' -a - -d 'standard input'
 complete -c bsonwide -n '__bsonwide_needs_file dump check find serve' -k -a '(__fish_complete_suffix .bson)'
 complete -c bsonwide -n '__bsonwide_needs_file pack' -F
-complete -c bsonwide -n '__bsonwide_needs dump jsonFormat' -l jsonFormat -x -a 'canonical relaxed' -d 'how numbers and dates are printed'
+complete -c bsonwide -n '__bsonwide_lays_out jsonFormat' -l jsonFormat -x -a 'canonical relaxed' -d 'how numbers and dates are printed'
+complete -c bsonwide -n '__bsonwide_lays_out jsonArray' -l jsonArray -d 'print one array'
+complete -c bsonwide -n '__bsonwide_lays_out fields' -l fields -x -d 'print these fields alone, as name,address.city'
+complete -c bsonwide -n '__bsonwide_lays_out noId' -l noId -d 'leave out _id'
 complete -c bsonwide -n 'test (commandline -opc)[-1] = --jsonFormat' -a 'canonical relaxed'
 complete -c bsonwide -n '__bsonwide_needs serve byValue' -l byValue -d 'read doubles and decimal128 over any dump'
 complete -c bsonwide -n '__bsonwide_needs find query; and __bsonwide_needs find queryFile' -l query -x -d 'the query, as {"age":{"$gte":18}}'
@@ -50,5 +65,5 @@ complete -c bsonwide -n '__bsonwide_needs find limit' -l limit -x -d 'at most N 
 complete -c bsonwide -n '__bsonwide_needs find batch; and __bsonwide_needs find count' -l batch -x -d 'the next N documents'
 complete -c bsonwide -n '__bsonwide_needs find index' -l index -x -d 'find by an index on the path, as address.city'
 complete -c bsonwide -n '__bsonwide_needs find after' -l after -x -d 'go on after a token'
-complete -c bsonwide -n '__bsonwide_needs find bson; and __bsonwide_needs find count' -l bson -d 'print bytes'
-complete -c bsonwide -n '__bsonwide_needs find count; and __bsonwide_needs find bson; and __bsonwide_needs find batch' -l count -d 'print how many'
+complete -c bsonwide -n '__bsonwide_needs find bson; and __bsonwide_needs find count; and __bsonwide_no_layout' -l bson -d 'print bytes'
+complete -c bsonwide -n '__bsonwide_needs find count; and __bsonwide_needs find bson; and __bsonwide_needs find batch; and __bsonwide_no_layout' -l count -d 'print how many'

@@ -23,8 +23,8 @@ COMPLETIONS = ROOT / "completions"
 COMMANDS = {"dump", "check", "pack", "find", "serve"}
 OF_WIDE = {"dump", "check", "pack", "find", "serve"}
 OPTIONS = {"--query", "--sort", "--skip", "--limit", "--batch", "--index", "--after"}
-WIDE_OPTIONS = OPTIONS | {"--queryFile", "--bson", "--count"}
-FORMAT, FORMATS = {"--jsonFormat"}, {"canonical", "relaxed"}
+LAYOUT, FORMATS = {"--jsonFormat", "--jsonArray", "--fields", "--noId"}, {"canonical", "relaxed"}
+WIDE_OPTIONS = OPTIONS | {"--queryFile", "--bson", "--count"} | LAYOUT
 BY_VALUE = {"--byValue"}
 DUMPS = {"one.bson", "two.bson", "room/"}
 OTHERS = {"lines.jsonl"}
@@ -81,15 +81,18 @@ OF_BSONWIDE: list[Row] = [
     ("pack l", {"lines.jsonl"}, set()),
     ("pack -- ", DUMPS | OTHERS | {"-"}, set()),
     ("pack lines.jsonl ", set(), set()),
-    ("dump ", DUMPS | {"-"}, FORMAT | OTHERS),
+    ("dump ", DUMPS | {"-"}, LAYOUT | OTHERS),
     ("dump o", {"one.bson"}, set()),
     ("dump -- ", DUMPS | {"-"}, OTHERS),
-    ("dump one.bson ", set(), FORMAT),
-    ("dump --", FORMAT, set()),
-    ("dump one.bson --", FORMAT, set()),
+    ("dump one.bson ", set(), LAYOUT),
+    ("dump --", LAYOUT, set()),
+    ("dump one.bson --", LAYOUT, set()),
+    ("dump one.bson --jsonArray --", LAYOUT - {"--jsonArray"}, set()),
+    ("dump one.bson --fields a,b --noId --", LAYOUT - {"--fields", "--noId"}, set()),
+    ("dump one.bson --fields ", set(), set()),
     ("dump one.bson --jsonFormat ", FORMATS, set()),
     ("dump --jsonFormat r", {"relaxed"}, set()),
-    ("dump --jsonFormat relaxed ", DUMPS | {"-"}, OTHERS),
+    ("dump --jsonFormat relaxed ", DUMPS | {"-"}, LAYOUT - {"--jsonFormat"} | OTHERS),
     # The commands of serve come from standard input, so it has no hyphen.
     ("serve ", DUMPS, BY_VALUE | OTHERS),
     ("serve -", BY_VALUE, set()),
@@ -105,13 +108,16 @@ OF_BSONWIDE: list[Row] = [
     ("find one.bson --queryFile l", {"lines.jsonl"}, set()),
     ("find --queryFile lines.jsonl --", WIDE_OPTIONS - {"--query", "--queryFile"}, set()),
     ("find --queryFile lines.jsonl ", DUMPS | {"-"}, WIDE_OPTIONS - {"--query", "--queryFile"} | OTHERS),
-    ("find one.bson --bson --", WIDE_OPTIONS - {"--bson", "--count"}, set()),
-    ("find one.bson --count --", WIDE_OPTIONS - {"--bson", "--count", "--batch"}, set()),
+    ("find one.bson --bson --", WIDE_OPTIONS - LAYOUT - {"--bson", "--count"}, set()),
+    ("find one.bson --count --", WIDE_OPTIONS - LAYOUT - {"--bson", "--count", "--batch"}, set()),
+    ("find one.bson --jsonArray --", WIDE_OPTIONS - {"--jsonArray", "--bson", "--count"}, set()),
+    ("find one.bson --fields a --", WIDE_OPTIONS - {"--fields", "--bson", "--count"}, set()),
+    ("find one.bson --jsonFormat ", FORMATS, set()),
     ("find one.bson --batch 3 --", WIDE_OPTIONS - {"--batch", "--count"}, set()),
-    ("find --bson ", DUMPS | {"-"}, WIDE_OPTIONS - {"--bson", "--count"} | OTHERS),
+    ("find --bson ", DUMPS | {"-"}, WIDE_OPTIONS - LAYOUT - {"--bson", "--count"} | OTHERS),
 ]
 ROWS = {"bsonfind": OF_BSONFIND, "bsonwide": OF_BSONWIDE}
-KNOWN = COMMANDS | OF_WIDE | WIDE_OPTIONS | BY_VALUE | FORMAT | FORMATS | DUMPS | OTHERS | HELP | {"-"}
+KNOWN = COMMANDS | OF_WIDE | WIDE_OPTIONS | BY_VALUE | FORMATS | DUMPS | OTHERS | HELP | {"-"}
 PROMPT = "ready> "
 
 

@@ -5,9 +5,9 @@ lines, as bytes, and how many.
     tests/wide/finds.py [PROGRAM [DUMPS [SEED]]]
 
 The program is `bsonwide`. The model compares all numbers exactly, as MongoDB does. What is found must be the lines of `bsonwide dump` at
-the places of the model's answer, with `--bson` the bytes of the dump at these places, and with `--count` how many they are; standard error
-and the status stay. A query in a file has the answer of the same in an argument. A query is refused for its types only where its `$type`s
-split the four types of numbers into more than two classes.
+the places of the model's answer, in each layout, with `--bson` the bytes of the dump at these places, and with `--count` how many they
+are; standard error and the status stay. A query in a file has the answer of the same in an argument. A query is refused for its types only
+where its `$type`s split the four types of numbers into more than two classes.
 """
 
 import random
@@ -91,6 +91,7 @@ class Finding:
         if not is_good:
             self.tests.want(name, (status, found) == (1, []) and said.startswith("bsonwide: ") and said.count("\n") == 1, (status, said))
             self.forms(name, words, (status, said), b"", b"")
+            self.layouts(name, words, (status, said), None)
         elif said == TYPES:
             self.refused += 1
             self.tests.want(name, (status, found) == (1, []) and more_classes(query), status)
@@ -102,6 +103,7 @@ class Finding:
             self.tests.want(name, status == 0 and found == wanted and counts is not None and counts[1] == str(len(wanted)), (status, said, found, wanted))
             documents = documents_of(model.bytes)
             self.forms(name, words, (status, said), b"".join(documents[place] for place in places), f"{len(places)}\n".encode())
+            self.layouts(name, words, (status, said), places)
             self.pages(name, words, wanted)
         if self.rng.random() < 0.2:
             (self.room / "query.json").write_text(f"{words[1]}\n", encoding="utf-8")
@@ -113,6 +115,16 @@ class Finding:
         for flag, wanted in (("--bson", dump), ("--count", count)):
             status, found, said = self.run_bytes("find", "dump.bson", *words, flag)
             self.tests.want(f"{name}, {flag}", found == wanted and (status, said) == ended, (status, said, found, wanted))
+
+    def layouts(self, name: str, words: list[str], ended: tuple[int, str], places: list[int] | None) -> None:
+        """In a layout the texts are those of `dump` in it, and the status and standard error are the same; without an answer nothing is printed."""
+        layout = self.rng.choice([["--jsonFormat", "relaxed"], ["--fields", "a,b.c"], ["--fields", "_id,b", "--jsonFormat=relaxed"], ["--fields", "c.a", "--noId"]])
+        status, lines, _ = self.run("dump", "dump.bson", *layout)
+        texts = [] if places is None else [lines[place].removesuffix("\n") for place in places]
+        array = [] if places is None else ["[" + ",".join(texts) + "]\n"]
+        for more, wanted in (([], [f"{it}\n" for it in texts]), (["--jsonArray"], array)):
+            status, found, said = self.run_bytes("find", "dump.bson", *words, *layout, *more)
+            self.tests.want(f"{name}, {layout + more}", (found.decode(), status, said) == ("".join(wanted), *ended), (status, said, found, wanted))
 
     def pages(self, name: str, words: list[str], wanted: list[str]) -> None:
         """The pages of an answer, joined, are the answer."""

@@ -23,6 +23,7 @@ PROGRAM = Path(sys.argv[1]).resolve() if len(sys.argv) > 1 else ROOT / "bsonwide
 DOCUMENTS = int(sys.argv[2]) if len(sys.argv) > 2 else 20_000
 USAGE = usage_of("bsonwide").encode()
 NONE = b"0 objects found\n"
+FIELDS = b"bsonwide: fields: not paths to separate fields\n"
 VERSION = b"bsonwide " + (ROOT / "VERSION").read_bytes()
 RNG = random.Random(57)
 # Texts that stand in the pages of Go's driver, of bsondump, of Extended JSON v2 and of the decimal128 specification.
@@ -164,6 +165,14 @@ def main() -> int:
         tests.want(f"dump, {name}", made == dump(data), made[1:])
         made = ran("dump", data, b"--jsonFormat", b"relaxed")
         tests.want(f"dump, relaxed, {name}", made == dump(data, is_relaxed=True), made[1:])
+        for words, wanted in (
+            (["--jsonArray"], dump(data, is_array=True)),
+            (["--fields", "a,b.c,o.e"], dump(data, fields=["a", "b.c", "o.e", "_id"])),
+            (["--fields=_id,c.a.b", "--jsonFormat=relaxed"], dump(data, True, ["_id", "c.a.b"])),
+            (["--jsonArray", "--fields", "b,a.a", "--noId", "--jsonFormat", "relaxed"], dump(data, True, ["b", "a.a"], True)),
+        ):
+            made = ran("dump", data, *map(str.encode, words))
+            tests.want(f"dump {words}, {name}", made == wanted, made[1:])
 
     for words, status, out, err in (
         ([], 2, b"", USAGE), (["check"], 2, b"", USAGE), (["sort", "-"], 2, b"", USAGE), (["check", "-", "-"], 2, b"", USAGE),
@@ -174,6 +183,17 @@ def main() -> int:
         (["dump", "-", "--jsonFormat", "Relaxed"], 2, b"", USAGE), (["dump", "-", "--jsonFormat", ""], 2, b"", USAGE),
         (["dump", "-", "--jsonFormat"], 2, b"", USAGE), (["check", "-", "--jsonFormat", "relaxed"], 2, b"", USAGE),
         (["dump", "-", "--jsonFormat", "relaxed", "--jsonFormat", "relaxed"], 2, b"", USAGE),
+        (["dump", "-", "--jsonArray"], 0, b"[]\n", NONE), (["dump", "-", "--type", "json"], 0, b"", NONE),
+        *((["dump", "-", "--fields", it], 1, b"", FIELDS) for it in ("", "a,", ",a", "a..b", "a,a", "a,a.b", "a.b,c,a", "$a", "_id.x,_id")),
+        (["dump", "absent", "--fields", "a,a"], 1, b"", b"bsonwide: cannot open absent\n"),
+        (["dump", "-", "--fields", "_id", "--noId"], 1, b"", FIELDS), (["find", "-", "--fields", "a,a.b"], 1, b"", FIELDS),
+        (["find", "-", "--fields", "a,a", "--query", "{"], 1, b"", FIELDS), (["find", "-", "--jsonArray"], 0, b"[]\n", b"0 documents, end\n"),
+        *(([command, "-", *words], 2, b"", USAGE) for command in ("dump", "find") for words in (
+            ["--noId"], ["--fields"], ["--fields", "a", "--fields", "b"], ["--jsonArray", "--jsonArray"], ["--noHeaderLine"],
+            ["--type", "xml"], ["--jsonFormat", "plain"], ["--jsonArray", "--bson"], ["--fields", "a", "--count"], ["--noId", "--bson"],
+            ["--jsonFormat", "canonical", "--bson"], ["--type", "json", "--count"],
+        )),
+        (["check", "-", "--jsonArray"], 2, b"", USAGE), (["pack", "-", "--fields", "a"], 2, b"", USAGE), (["serve", "absent", "--noId"], 2, b"", USAGE),
         (["serve"], 2, b"", USAGE), (["serve", "-"], 2, b"", USAGE), (["serve", "--", "-"], 2, b"", USAGE), (["serve", "-", "-"], 2, b"", USAGE),
         (["serve", "absent"], 1, b"", b"bsonwide: cannot open absent\n"), (["serve", "/"], 1, b"", b"bsonwide: cannot read\n"),
         (["mask", "-"], 2, b"", USAGE), (["wrap", "-"], 2, b"", USAGE), (["order", "-"], 2, b"", USAGE), (["--version"], 0, VERSION, b""), (["--version", "-"], 2, b"", USAGE),

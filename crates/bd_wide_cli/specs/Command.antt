@@ -6,9 +6,10 @@ use Rattle.bd_cli_args.specs.FindOptions.{FindOptions}
 use Rattle.bd_bson_check.specs.declared.profile.Profile.TheVariants.{All}
 use Rattle.bd_cli_scan.specs.{Check.check_run_under, Dump.dump_run_by, Run.Prints, declared.output.Status.Status}
 use Rattle.bd_cli_files.specs.Pack.{pack_run_by}
-use Rattle.bd_wide_find.specs.Find.{wide_find_run}
+use Rattle.bd_wide_find.specs.Find.{printing_of, wide_find_run}
+use Rattle.bd_wide_layout.specs.Options.{layout_named}
 use Rattle.bd_wide_service.specs.Serve.{wide_serve_run}
-use Rattle.bd_wide_cli.specs.{Dump.all_types, declared.command.Command.Command}
+use Rattle.bd_wide_cli.specs.{Dump.laid_out, Dump.layout_run, declared.command.Command.Command}
 use Rattle.bd_wide_cli.specs.Pack as packing
 use Rattle.bd_wide_cli.specs.declared.command.Command.TheVariants as commands
 
@@ -22,11 +23,12 @@ module _ {C : Type 0} (state : C → Reader) (gives : C → Option (List ℕ) �
   -- A run of the command did this, by what was read of the file of its query, if it has one.
   abbrev pub RunsCommand : Option (List ℕ) → Command → Over Reader → Over Writer → Over Writer → Status → Type 0
   RunsCommand query commands.Check file out err status = Prints (codes "bsonwide") (check_run_under All file) out err status
-  RunsCommand query (commands.Dump format) file out err status =
-      Prints (codes "bsonwide") (dump_run_by (all_types format) file) out err status
+  RunsCommand query (commands.Dump options) file out err status =
+      Prints (codes "bsonwide") (layout_run (layout_named options) file (λ layout. dump_run_by (laid_out layout) file)) out err status
   RunsCommand query commands.Pack file out err status = Prints (codes "bsonwide") (pack_run_by packing.all_types file) out err status
-  RunsCommand query (commands.Find options form) file out err status =
-      Prints (codes "bsonwide") (wide_find_run form (query_text query options) options file) out err status
+  RunsCommand query (commands.Find options layout form) file out err status =
+      Prints (codes "bsonwide") (layout_run (layout_named layout) file
+      (λ layout. wide_find_run (printing_of layout form) (query_text query options) options file)) out err status
   RunsCommand query (commands.Serve by_value) file out err status =
       Prints (codes "bsonwide") (wide_serve_run state gives old new by_value file) out err status
 

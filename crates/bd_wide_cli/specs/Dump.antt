@@ -1,24 +1,31 @@
 -- How `bsonwide` reads and prints documents.
-use Rattle.std.specs.Prelude.{List, ℕ, Option, Some, None, Result, Ok, Err, if◌then◌else◌, codes}
-use Rattle.std.specs.Str.{bytes_eq}
-use Rattle.bd_value.specs.Tree.{doc, fields_of}
+use Rattle.std.specs.Prelude.{◌≡◌, ℕ, List, [], codes, Option, Some, None}
+use Rattle.bd_io_device.specs.Devices.{Over, Reader}
 use Rattle.bd_bson_view.specs.Spelling.{IsDocumentBy, valued}
 use Rattle.bd_bson_check.specs.declared.profile.Profile.{Profile}
-use Rattle.bd_cli_args.specs.declared.order.WordsFault.{WordsFault}
-use Rattle.bd_cli_scan.specs.Dump.{Form}
-use Rattle.bd_wide_dump.specs.declared.format.JsonFormat.{JsonFormat}
-use Rattle.bd_wide_dump.specs.{Raw.raw, WideText.IsTextOf}
+use Rattle.bd_cli_scan.specs.{Dump.Form, Run.Run, Output.refusal_output}
+use Rattle.bd_wide_dump.specs.{Raw.raw}
+use Rattle.bd_wide_layout.specs.Layout.{LayoutView, IsPiece, closing, opening}
 
--- the form of `bsonwide`: all types of BSON 1.1, in Extended JSON of this format
-abbrev pub all_types : JsonFormat → Form
-all_types format = record {
+-- the form of `bsonwide`: all types of BSON 1.1, in this layout
+abbrev pub laid_out : LayoutView → Form
+laid_out layout = record {
   profile = Profile.All;
   Spells = IsDocumentBy (valued raw);
-  IsText = λ d text. IsTextOf format (doc (fields_of d)) text;
+  opening = opening layout;
+  IsPiece = IsPiece layout;
+  closing = closing layout;
 }
 
--- the format that the word of `--jsonFormat` names; canonical if there is no word
-abbrev pub format_named : Option (List ℕ) → Result JsonFormat WordsFault
-format_named None = Ok JsonFormat.Canonical
-format_named (Some word) = if bytes_eq word (codes "canonical") then Ok JsonFormat.Canonical
-    else (if bytes_eq word (codes "relaxed") then Ok JsonFormat.Relaxed else Err WordsFault.Usage)
+-- the message for fields that are refused
+abbrev pub fields_refused : List ℕ
+fields_refused = codes "fields: not paths to separate fields"
+
+-- A run by a layout; or, without one, only that the fields are refused is printed, and the file is not read.
+abbrev pub layout_run : Option LayoutView → Over Reader → (LayoutView → Run) → Run
+layout_run (Some layout) file run = run layout
+layout_run None file run = record {
+  IsOutput = λ output. (output ≡ refusal_output fields_refused) × (file.after ≡ file.before);
+  IsNext = λ text piece. ⊥;
+  IsBegun = λ text. (text ≡ []) × (file.after ≡ file.before);
+}

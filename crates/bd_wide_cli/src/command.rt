@@ -3,18 +3,16 @@
 ghost use Rattle.bd_io_device.specs.Devices.{over};
 ghost use Rattle.std.specs.Prelude.{◌≡◌, option_map};
 ghost use Rattle.bd_wide_cli.specs.Command.{ReadsNoCommands, RunsCommand, is_serve, query_text, reads_first};
-ghost use Rattle.bd_wide_cli.specs.Dump.{format_named};
 
 use crate::dump::dump;
+use crate::find::find;
 use crate::output::PROGRAM;
 use crate::pack::WideLinePacker;
-use bd_cli_args::{FindOptions, Form, WordsFault};
+use bd_cli_args::{FindOptions, Form, LayoutOptions};
 use bd_cli_files::pack::pack_by;
 use bd_cli_scan::Status;
 use bd_cli_scan::check::check_all_types;
 use bd_io_device::{Input, Output};
-use bd_wide_dump::JsonFormat;
-use bd_wide_find::find::find;
 use bd_wide_pack::WidePacker;
 use bd_wide_service::serve::serve;
 use std::alloc::Global;
@@ -24,12 +22,12 @@ use std::alloc::Global;
 pub enum Command {
     /// A line for each document that has a fault.
     Check,
-    /// Each document as Extended JSON in this format, one a line.
-    Dump(JsonFormat),
+    /// The text of each document, in the layout of these options, which go together.
+    Dump(LayoutOptions),
     /// Each line of canonical Extended JSON as a document.
     Pack,
-    /// The documents that these options request, in this form.
-    Find(FindOptions, Form),
+    /// The documents that these options request, in this form; their texts in the layout of these options, which go together.
+    Find(FindOptions, LayoutOptions, Form),
     /// A reply to each command of a session.
     Serve {
         /// Whether a dump without doubles and decimal128 is served by value too.
@@ -41,7 +39,7 @@ pub enum Command {
 /// if memory runs out. It takes the memory of one document, and of what is written for it; for `Pack` that of all documents, and for
 /// `Find` and `Serve` that of the dump, and of a copy if it is searched by value.
 ///
-/// `query` is what was read of the file of the query, if the command has one. The commands of a session are read from `commands`.
+/// If the fields of a layout are refused, only that is reported, and the file is not read. `query` is what was read of the file of the query, if the command has one. The commands of a session are read from `commands`.
 pub fn run<R: Input, C: Input, O: Output, E: Output>(
     alloc: Global,
     command: &Command,
@@ -60,14 +58,14 @@ pub fn run<R: Input, C: Input, O: Output, E: Output>(
 {
     match command {
         Command::Check => check_all_types(alloc, PROGRAM, file, out, err),
-        Command::Dump(format) => dump(alloc, *format, file, out, err),
+        Command::Dump(options) => dump(alloc, options, file, out, err),
         Command::Pack => {
             let packer = WidePacker::new(alloc);
             pack_by(alloc, PROGRAM, WideLinePacker { packer }, file, out, err)
         }
-        Command::Find(options, form) => {
+        Command::Find(options, layout, form) => {
             let text = query_text(query, options);
-            find(alloc, PROGRAM, *form, text, options, file, out, err)
+            find(alloc, layout, *form, text, options, file, out, err)
         }
         Command::Serve { by_value } => {
             serve(alloc, PROGRAM, *by_value, file, commands, out, err)
@@ -83,21 +81,6 @@ fn query_text<'a>(read: Option<&'a [u8]>, options: &'a FindOptions) -> &'a [u8]
         (Some(text), _) => text,
         (None, Some(text)) => text.as_bytes(),
         (None, None) => b"{}",
-    }
-}
-
-/// The format that the word of `--jsonFormat` names, `canonical` or `relaxed`; canonical if there is no word.
-///
-/// # Errors
-///
-/// `Usage` for any other word.
-pub fn read_format(word: Option<&str>) -> Result<JsonFormat, WordsFault>
-    ensures { result ≡ format_named (option_map (λ w. w.now) word.entry) }
-{
-    match word {
-        None | Some("canonical") => Ok(JsonFormat::Canonical),
-        Some("relaxed") => Ok(JsonFormat::Relaxed),
-        Some(_) => Err(WordsFault::Usage),
     }
 }
 

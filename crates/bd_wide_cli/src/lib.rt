@@ -11,7 +11,15 @@
 //! let mut out = MemoryOutput::new(&mut buffer, 100, None);
 //! let mut reported = [0; 100];
 //! let mut err = MemoryOutput::new(&mut reported, 100, None);
-//! let command = Command::Dump(JsonFormat::Canonical);
+//! let command = Command::Dump(LayoutOptions {
+//!     output: None,
+//!     format: None,
+//!     fields: None,
+//!     no_id: false,
+//!     no_header: false,
+//!     is_array: false,
+//!     is_pretty: false,
+//! });
 //! let status = run(
 //!     alloc,
 //!     &command,
@@ -25,16 +33,17 @@
 //! assert!(rt; out.bytes() == b"{}\n".as_slice());
 //! ```
 //!
-//! - `command`: `Command`, and `run`, a whole run over devices; `read_format`, the format of a word.
-//! - `dump`: the lines of documents of all types.
+//! - `command`: `Command`, and `run`, a whole run over devices.
+//! - `dump` and `find`: documents of all types, in a layout.
 //! - `pack`: the documents of all types in lines.
 //! - `output`: the usage and the version.
 #![tactic(auto)]
 
 mod command;
 mod dump;
+mod find;
 mod output;
 mod pack;
 
-pub use command::{Command, is_serve, read_format, reads_first, run};
+pub use command::{Command, is_serve, reads_first, run};
 pub use output::{PROGRAM, report, version};

@@ -13,11 +13,15 @@ use bd_io_device::Output;
 /// The name of the program, before each message.
 pub const PROGRAM: &str = "bsonwide";
 
+/// The message for fields that are refused.
+pub(crate) const FIELDS_REFUSED: &str = "fields: not paths to separate fields";
+
 /// The answer to a request for help and to invalid arguments.
-const USAGE: &str = "usage: bsonwide dump FILE [--jsonFormat FORMAT]
+const USAGE: &str =
+    "usage: bsonwide dump FILE [--jsonFormat FORMAT] [--jsonArray] [--fields FIELDS] [--noId]
        bsonwide check FILE
        bsonwide pack FILE
-       bsonwide find FILE [--query Q | --queryFile FILE] [--sort S] [--skip N] [--limit N] [--batch N] [--index PATH] [--after TOKEN] [--bson | --count]
+       bsonwide find FILE [--query Q | --queryFile FILE] [--sort S] [--skip N] [--limit N] [--batch N] [--index PATH] [--after TOKEN] [--jsonFormat FORMAT] [--jsonArray] [--fields FIELDS] [--noId] [--bson | --count]
        bsonwide serve FILE [--byValue]
 ";
 

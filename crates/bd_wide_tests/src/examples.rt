@@ -1,13 +1,14 @@
-//! The examples of use in the roots of `bd_wide_number`, `bd_wide_text`, `bd_wide`, `bd_wide_dump` and `bd_wide_cli`, and runs of
-//! `bd_wide_cli`.
+//! The examples of use in the roots of `bd_wide_number`, `bd_wide_text`, `bd_wide`, `bd_wide_dump`, `bd_wide_layout` and `bd_wide_cli`,
+//! and runs of `bd_wide_cli`.
 use bd_bson_check::{Profile, check_bytes};
 use bd_bson_view::ElementType;
-use bd_cli_args::WordsFault;
+use bd_cli_args::{LayoutOptions, WordsFault};
 use bd_cli_scan::Status;
 use bd_io_device::{MemoryInput, MemoryOutput};
 use bd_wide::number_in;
 use bd_wide_cli::{Command, is_serve, report, run, version};
 use bd_wide_dump::{JsonFormat, WideTextBuffer};
+use bd_wide_layout::{Layout, LayoutBuffer};
 use bd_wide_number::{Number, code_of};
 use bd_wide_text::write_double;
 use std::test::Fail;
@@ -56,7 +57,15 @@ fn dumped(rt: HostRuntime) {
     let mut out = MemoryOutput::new(&mut buffer, 100, None);
     let mut reported = [0; 100];
     let mut err = MemoryOutput::new(&mut reported, 100, None);
-    let command = Command::Dump(JsonFormat::Canonical);
+    let command = Command::Dump(LayoutOptions {
+        output: None,
+        format: None,
+        fields: None,
+        no_id: false,
+        no_header: false,
+        is_array: false,
+        is_pretty: false,
+    });
     let status = run(
         alloc,
         &command,
@@ -138,4 +147,21 @@ fn reports(rt: HostRuntime) {
     assert!(rt; report(&WordsFault::Help, &mut out, &mut err) == Status::Done);
     assert!(rt; out.bytes() == usage.as_bytes());
     assert!(rt; version() == "bsonwide 0.1.0\n");
+}
+
+/// The second of the texts in an array.
+#[test]
+fn in_an_array(rt: HostRuntime) -> Result<(), Fail> {
+    let alloc = rt.alloc();
+    let layout = Layout {
+        format: JsonFormat::Relaxed,
+        paths: None,
+        is_array: true,
+    };
+    let bytes = b"\x05\0\0\0\0";
+    check_bytes(alloc, Profile::All, bytes, 0, 0)?;
+    let mut buffer = LayoutBuffer::new(alloc);
+    let piece = buffer.piece(alloc, &layout, 1, bytes)?;
+    assert!(rt; piece == b",{}".as_slice());
+    Ok(())
 }

@@ -1,12 +1,13 @@
 //! `bsonwide`: all types of BSON 1.1, over the system's files and standard streams.
 #![tactic(auto)]
 
-use bd_cli_args::{WideOrder, WordsFault, parse_wide_words};
+use bd_cli_args::{LayoutOptions, WideOrder, WordsFault, parse_wide_words};
 use bd_cli_main::Program;
 use bd_cli_scan::Status;
 use bd_io_device::{Input, Output};
 use bd_value::LONGEST_INPUT;
-use bd_wide_cli::{Command, PROGRAM, is_serve, read_format, reads_first, version};
+use bd_wide_cli::{Command, PROGRAM, is_serve, reads_first, version};
+use bd_wide_layout::go_together;
 use std::alloc::Global;
 use std::process::ExitCode;
 
@@ -37,6 +38,15 @@ impl Ordered {
     }
 }
 
+/// The options of a layout, if they go together.
+fn layout_of(options: LayoutOptions) -> Result<LayoutOptions, WordsFault> {
+    if go_together(&options) {
+        Ok(options)
+    } else {
+        Err(WordsFault::Usage)
+    }
+}
+
 impl Program for Bsonwide {
     type Command = Ordered;
 
@@ -50,9 +60,9 @@ impl Program for Bsonwide {
 
     fn parse(&self, alloc: Global, words: &[String]) -> Result<Self::Command, WordsFault> {
         match parse_wide_words(alloc, words)? {
-            WideOrder::Dump { file, format } => {
-                let format = read_format(format.as_deref())?;
-                Ok(Ordered::new(Command::Dump(format), file))
+            WideOrder::Dump { file, layout } => {
+                let layout = layout_of(layout)?;
+                Ok(Ordered::new(Command::Dump(layout), file))
             }
             WideOrder::Check { file } => Ok(Ordered::new(Command::Check, file)),
             WideOrder::Pack { file } => Ok(Ordered::new(Command::Pack, file)),
@@ -60,12 +70,16 @@ impl Program for Bsonwide {
                 file,
                 query_file,
                 options,
+                layout,
                 form,
-            } => Ok(Ordered {
-                command: Command::Find(options, form),
-                file,
-                query_file,
-            }),
+            } => {
+                let layout = layout_of(layout)?;
+                Ok(Ordered {
+                    command: Command::Find(options, layout, form),
+                    file,
+                    query_file,
+                })
+            }
             WideOrder::Serve { file, by_value } => {
                 Ok(Ordered::new(Command::Serve { by_value }, file))
             }

@@ -2,4 +2,4 @@ use Rattle.std.proofs.Common.{sym}
 use Rattle.bd_wide_cli.proofs.command.run.Goals as goal
 
 pub returns-in-Find-clause-ran : goal.returns-in-Find-clause-ran
-returns-in-Find-clause-ran g c = rw (c.in-Find.is, sym c.query_text-text.ensures) c.find.ensures.found
+returns-in-Find-clause-ran g c = rw (c.in-Find.is, sym c.query_text-text.ensures) c.find.ensures

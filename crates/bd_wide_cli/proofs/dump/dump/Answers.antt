@@ -1,7 +1,25 @@
+use Rattle.std.proofs.Common.{inl, refl}
+use Rattle.bd_io_device.specs.Devices.{over}
+use Rattle.bd_cli_scan.specs.Dump.{dump_run_by}
+use Rattle.bd_wide_layout.specs.{Layout.layout_view, Options.layout_named}
+use Rattle.bd_wide_cli.specs.Dump.{laid_out}
+use Rattle.bd_wide_cli.proofs.RunLemmas as runs
 use Rattle.bd_wide_cli.proofs.dump.dump.Goals as goal
 
-pub returns-in-Canonical : goal.returns-in-Canonical
-returns-in-Canonical g c = rw c.in-Canonical.is c.dump_by.ensures.dumps
+pub returns-in-Ok-Some : goal.returns-in-Ok-Some
+returns-in-Ok-Some g c =
+    let file = over g.R.Input.state c.args.file.now c.dump_in.new.file in
+    runs.runs_in (layout_named c.args.options.now) file (λ layout. dump_run_by (laid_out layout) file) (layout_view c.in-Ok-Some.layout) (rw c.in-Ok-Some.field-0-is at c.in-Ok-Some.ensures)
+    c.dump_in.ensures
 
-pub returns-in-Relaxed : goal.returns-in-Relaxed
-returns-in-Relaxed g c = rw c.in-Relaxed.is c.dump_by-in-Relaxed.ensures.dumps
+pub returns-in-Ok-None : goal.returns-in-Ok-None
+returns-in-Ok-None g c =
+    let file = over g.R.Input.state c.args.file.now c.args.file.now in
+    runs.refuses_fields (layout_named c.args.options.now) file (λ layout. dump_run_by (laid_out layout) file) refl (g.O.Output.state c.args.out.now)
+    (over g.E.Output.state c.args.err.now c.report_error.new.err) c.report_error.result (rw c.in-Ok-None.field-0-is at c.in-Ok-None.ensures) c.report_error.ensures
+
+pub returns-in-Err : goal.returns-in-Err
+returns-in-Err g c =
+    let file = over g.R.Input.state c.args.file.now c.args.file.now in
+    runs.runs_out (layout_named c.args.options.now) file (λ layout. dump_run_by (laid_out layout) file) refl (g.O.Output.state c.args.out.now)
+    (over g.E.Output.state c.args.err.now c.report_no_memory.new.err) c.report_no_memory.result (λ layout. inl (refl, refl)) c.report_no_memory.ensures
