@@ -44,6 +44,6 @@ is_serve _ = false
 
 -- whether a command reads its whole file before it prints anything
 abbrev pub reads_first : Command → Bool
-reads_first (commands.Find options form) = true
+reads_first (commands.Find options layout form) = true
 reads_first (commands.Serve by_value) = true
 reads_first _ = false

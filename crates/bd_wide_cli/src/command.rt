@@ -39,7 +39,8 @@ pub enum Command {
 /// if memory runs out. It takes the memory of one document, and of what is written for it; for `Pack` that of all documents, and for
 /// `Find` and `Serve` that of the dump, and of a copy if it is searched by value.
 ///
-/// If the fields of a layout are refused, only that is reported, and the file is not read. `query` is what was read of the file of the query, if the command has one. The commands of a session are read from `commands`.
+/// If the fields of a layout are refused, only that is reported, and the file is not read. `query` is what was read of the file of the
+/// query, if the command has one. The commands of a session are read from `commands`.
 pub fn run<R: Input, C: Input, O: Output, E: Output>(
     alloc: Global,
     command: &Command,
