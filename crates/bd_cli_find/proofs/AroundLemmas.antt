@@ -91,7 +91,7 @@ at_document ps i lt =
     let later = later_parts (take (i + 1) ps) (drop (i + 1) ps) in (
       later.0,
       ap document_parts (sym (take-append-drop (i + 1) ps)) ∙ later.1 ∙ ap (λ (x : List Part). x ++ later.0) (parts_more ps i 0 lt)
-      ∙ append_assoc (document_parts (take i ps)) (document (is_first i) (get_or ps i 0) ∷ []) later.0,
+          ∙ append_assoc (document_parts (take i ps)) (document (is_first i) (get_or ps i 0) ∷ []) later.0,
     )
 
 module _ (IsPiece : Part → List ℕ → Type 0) (ps : List ℕ) (i : ℕ) (old mid : Writer) (wrote : WritesPieces IsPiece (document_parts (take i ps)) (between old mid)) where
