@@ -184,7 +184,7 @@ def main() -> int:
         (["dump", "-", "--jsonFormat"], 2, b"", USAGE), (["check", "-", "--jsonFormat", "relaxed"], 2, b"", USAGE),
         (["dump", "-", "--jsonFormat", "relaxed", "--jsonFormat", "relaxed"], 2, b"", USAGE),
         (["dump", "-", "--jsonArray"], 0, b"[]\n", NONE), (["dump", "-", "--type", "json"], 0, b"", NONE),
-        *((["dump", "-", "--fields", it], 1, b"", FIELDS) for it in ("", "a,", ",a", "a..b", "a,a", "a,a.b", "a.b,c,a", "$a", "_id.x,_id")),
+        *((["dump", "-", "--fields", it], 1, b"", FIELDS) for it in ("", "a,", ",a", "a..b", "a,a", "a,a.b", "a.b,c,a", "_id.x,_id")),
         (["dump", "absent", "--fields", "a,a"], 1, b"", b"bsonwide: cannot open absent\n"),
         (["dump", "-", "--fields", "_id", "--noId"], 1, b"", FIELDS), (["find", "-", "--fields", "a,a.b"], 1, b"", FIELDS),
         (["find", "-", "--fields", "a,a", "--query", "{"], 1, b"", FIELDS), (["find", "-", "--jsonArray"], 0, b"[]\n", b"0 documents, end\n"),
