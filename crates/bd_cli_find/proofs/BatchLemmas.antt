@@ -210,5 +210,6 @@ module _ (Has : ℕ → Type 0) (q : Query) (token : Option Token) (has : (place
   limited_have None ps inside = all_have ps inside
   limited_have (Some k) ps inside = all_have (take k ps) (All-take (λ p. p < q.selection.count) k ps inside)
 
+  -- The places of a batch have what each place of the dump has.
   pub batch_has : (size : Option ℕ) (batch : Batch) → IsFirstBatch size q token (Ok batch) → All Has (given_batch batch).places
   batch_has size batch (ps, led, is) = subst (All Has) (sym is.places) (limited_have size ps (led_few q token ps led).0)

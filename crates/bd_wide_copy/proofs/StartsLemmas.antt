@@ -253,6 +253,7 @@ module _ (bytes starts : List ℕ) (fits : IsBytes bytes) (are : starts ≡ star
       let same : rest ≡ drop (get_or starts n 0) bytes = rest_is ∙ ap (λ (s : ℕ). drop s bytes) (start_same n start lt is) in
       document_at n size document lt (stated ∙ ap stated_length same) (document_is ∙ ap (take size) same)
 
+  -- the document at a place has no fault
   pub sound_here : (n start size : ℕ) (rest document : List ℕ) → n < length starts → start ≡ get_or starts n start → rest ≡ drop start bytes
       → size ≡ stated_length rest → document ≡ take size rest → (base : ℕ) × (fault_under All base document ≡ None)
   sound_here n start size rest document lt is rest_is stated document_is =
