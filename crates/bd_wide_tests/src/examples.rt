@@ -135,10 +135,11 @@ fn served(rt: HostRuntime) {
 /// The output for `--help` and for `--version`.
 #[test]
 fn reports(rt: HostRuntime) {
-    let usage = "usage: bsonwide dump FILE [--jsonFormat FORMAT]
+    let usage =
+        "usage: bsonwide dump FILE [--jsonFormat FORMAT] [--jsonArray] [--fields FIELDS] [--noId]
        bsonwide check FILE
        bsonwide pack FILE
-       bsonwide find FILE [--query Q | --queryFile FILE] [--sort S] [--skip N] [--limit N] [--batch N] [--index PATH] [--after TOKEN] [--bson | --count]
+       bsonwide find FILE [--query Q | --queryFile FILE] [--sort S] [--skip N] [--limit N] [--batch N] [--index PATH] [--after TOKEN] [--jsonFormat FORMAT] [--jsonArray] [--fields FIELDS] [--noId] [--bson | --count]
        bsonwide serve FILE [--byValue]
 ";
     let mut buffer = [0; 500];
