@@ -14,19 +14,19 @@ _bsonkit() {
 		return
 	fi
 	case $before in
-	--jsonFormat)
-		mapfile -t COMPREPLY < <(compgen -W 'canonical relaxed' -- "$word")
+	--type | --jsonFormat)
+		mapfile -t COMPREPLY < <(compgen -W "$([[ $before == --type ]] && echo json csv || echo canonical relaxed)" -- "$word")
 		return
 		;;
-	--query | --sort | --index | --after | --skip | --limit | --batch | --jobs | --max-faults | --by | --sum | --sample | --only | --regex | --timeout) return ;;
+	--query | --sort | --index | --after | --skip | --limit | --batch | --jobs | --max-faults | --fields | --by | --sum | --sample | --only | --regex | --timeout) return ;;
 	esac
 	if [[ $word != -* ]]; then
 		_bsonkit_files "$word"
 		return
 	fi
 	case $command in
-	dump) options='--jsonFormat' ;;
-	find) options='--query --sort --index --after --skip --limit --batch --bson --count' ;;
+	dump) options='--type --jsonFormat --fields --noId --jsonArray --pretty --noHeaderLine' ;;
+	find) options='--query --sort --index --after --skip --limit --batch --type --jsonFormat --fields --noId --jsonArray --pretty --noHeaderLine --bson --count' ;;
 	serve) options='--byValue' ;;
 	audit) options='--list --expect --json --quiet --jobs --max-faults' ;;
 	salvage) options='--good --bad --out' ;;

@@ -8,7 +8,7 @@ end
 
 set -l commands check dump pack find serve audit salvage unpack compare query count schema info grep ids
 complete -c bsonkit -n "not __bsonkit_command $commands" -f -a check -d 'print each fault of dumps'
-complete -c bsonkit -n "not __bsonkit_command $commands" -f -a dump -d 'print the documents of dumps, one a line'
+complete -c bsonkit -n "not __bsonkit_command $commands" -f -a dump -d 'print the documents of dumps'
 complete -c bsonkit -n "not __bsonkit_command $commands" -f -a pack -d 'write the dump of lines of Extended JSON'
 complete -c bsonkit -n "not __bsonkit_command $commands" -f -a find -d 'print the documents of a dump that match a query, sorted'
 complete -c bsonkit -n "not __bsonkit_command $commands" -f -a serve -d 'reply to commands about a dump'
@@ -25,7 +25,13 @@ complete -c bsonkit -n "not __bsonkit_command $commands" -f -a ids -d 'print the
 complete -c bsonkit -s h -l help -d 'print the usage'
 complete -c bsonkit -l version -d 'print the version'
 complete -c bsonkit -l program -r -d 'the program bsonfind'
-complete -c bsonkit -n '__bsonkit_command dump' -l jsonFormat -x -a 'canonical relaxed' -d 'the format of lines'
+complete -c bsonkit -n '__bsonkit_command dump find' -l type -x -a 'json csv' -d 'how documents are printed'
+complete -c bsonkit -n '__bsonkit_command dump find' -l jsonFormat -x -a 'canonical relaxed' -d 'how numbers and dates are printed'
+complete -c bsonkit -n '__bsonkit_command dump find' -l fields -x -d 'print these fields alone'
+complete -c bsonkit -n '__bsonkit_command dump find' -l noId -d 'leave out _id'
+complete -c bsonkit -n '__bsonkit_command dump find' -l jsonArray -d 'print one array'
+complete -c bsonkit -n '__bsonkit_command dump find' -l pretty -d 'print many lines for a document'
+complete -c bsonkit -n '__bsonkit_command dump find' -l noHeaderLine -d 'leave out the header of CSV'
 complete -c bsonkit -n '__bsonkit_command find' -l query -x -d 'a query'
 complete -c bsonkit -n '__bsonkit_command find' -l sort -x -d 'the fields to sort by'
 complete -c bsonkit -n '__bsonkit_command find' -l index -x -d 'find documents by an index'

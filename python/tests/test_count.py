@@ -369,7 +369,7 @@ class Counts(Room):
         run = run_package("count", str(mixed), str(PEOPLE), "--query", '{"v":{"$type":"double"},"w":{"$type":"decimal"}}')
         self.assertEqual((run.returncode, run.stdout), (2, ""), run.stderr)
         self.assertIn("the types of numbers are not told apart here", run.stderr)
-        self.count(PEOPLE, "--query", '{"$a":1}', status=2, told='bsonkit: filter: place "$a": unknown operator\n')
+        self.count(PEOPLE, "--query", '{"$a":1}', status=2, told='bsonkit: query: place "$a": unknown operator\n')
 
     def test_json(self) -> None:
         """A document a line, in which a missing field has no value."""

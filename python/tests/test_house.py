@@ -37,8 +37,10 @@ PLACES = {
     "_backup/ids._Finding.pass_on": "passes lines on; takes a document that dump refuses for one with a fault",
     "_backup/query._answer": "passes lines on",
     "_backup/reading._Batch.good": "notes faults, and leaves out their documents; compares the count with that of what was given",
-    "_command/checks.dump_file": "reads the line of the count; moves the place of a fault to that in the dump",
+    "_command/dumping.Dumping.__init__": "asks no documents, so that refused fields are reported",
+    "_command/dumping.Dumping._print": "reads the line of the count; the place of a fault is moved to that in the dump",
     "_command/finding.Finding._print_all": "passes the line of the count on",
+    "_command/finding.Finding._try": "asks no documents, so that a refused request is reported",
     "_command/finding.Finding._print_parts": "waits for the line of each part; passes the count of what was joined on",
     "_dumps/checking.Checking.faults": "moves the places of faults of an input to those in the dump, and adds up the counts",
     "_dumps/checking.faults_of": "reads the lines of faults",
@@ -198,7 +200,7 @@ class House(unittest.TestCase):
         run = subprocess.run([sys.executable, "-c", code], env=environment(), capture_output=True, text=True)
         self.assertEqual(
             [it for it in run.stdout.split() if it.startswith("bsonfind")],
-            ["bsonfind", "bsonfind._command", "bsonfind._command.program", "bsonfind._run", "bsonfind._run.program"],
+            ["bsonfind", "bsonfind._command", "bsonfind._command.layouts", "bsonfind._command.program", "bsonfind._run", "bsonfind._run.program"],
             run.stderr,
         )
 

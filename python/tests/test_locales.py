@@ -91,4 +91,4 @@ with Session({str(path)!r}, {PROGRAM!r}) as session:
                 ran = self.run_in({}, "--program", PROGRAM, "find", path, f"--{option}", "")
                 self.assertEqual((ran.returncode, ran.stdout, ran.stderr), (1, b"", f"bsonwide: {told}\n".encode()))
             ran = self.run_in({}, "--program", PROGRAM, "query", path, "--query", "")
-            self.assertEqual((ran.returncode, ran.stdout, ran.stderr), (2, b"", b"bsonkit: json: byte 0: not JSON\n"))
+            self.assertEqual((ran.returncode, ran.stdout, ran.stderr), (2, b"", b"bsonkit: query: byte 0: not JSON\n"))

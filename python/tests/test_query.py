@@ -62,8 +62,8 @@ class Queries(Room):
             ([missing, PEOPLE, bad], 2, f"bsonkit: {missing}: No such file or directory\n{fault}49 documents in 1 of 3 files, 2 not asked in full\n"),
         ):
             self.assertEqual(self.query(*map(str, words), "--query", OLD, status=status, told=told), wanted)
-        self.query(str(PEOPLE), "--query", '{"$a":1}', status=2, told='bsonkit: filter: place "$a": unknown operator\n')
-        self.query(str(PEOPLE), "--query", "{", status=2, told="bsonkit: json: byte 1: not JSON\n")
+        self.query(str(PEOPLE), "--query", '{"$a":1}', status=2, told='bsonkit: query: place "$a": unknown operator\n')
+        self.query(str(PEOPLE), "--query", "{", status=2, told="bsonkit: query: byte 1: not JSON\n")
         self.query(status=2, told="bsonkit: no dump is named\n")
         self.assertIn("argument --jobs: a number from 1", run_package("query", str(PEOPLE), "--jobs", "0").stderr)
 

@@ -5,8 +5,9 @@ import os
 from typing import List, Tuple, Union
 from unittest import mock
 
-from bsonfind._command.checks import check_file, dump_file
+from bsonfind._command.checks import check_file
 from bsonfind._command.console import Console
+from bsonfind._command.dumping import Dumping
 
 from .bson import document, field, text
 from .support import DAMAGED, DOUBLE, PEOPLE, PEOPLE_LINES, PROGRAM, Room, packed, run_of_bytes
@@ -115,7 +116,7 @@ class Commands(Room):
                 self.assertEqual(self.run_command("dump", *words, stdin=stdin), (0, lines, "2 objects found\n"))
             canonical = self.run_command("dump", word, stdin=stdin)
             self.assertEqual(self.run_command("dump", "--jsonFormat", "canonical", word, stdin=stdin), canonical)
-        for words in (["dump", "--jsonFormat", "plain", PEOPLE], ["find", "--jsonFormat", "relaxed", PEOPLE], ["dump", PEOPLE, "--jsonFormat"]):
+        for words in (["dump", "--jsonFormat", "plain", PEOPLE], ["check", "--jsonFormat", "relaxed", PEOPLE], ["dump", PEOPLE, "--jsonFormat"]):
             self.assertEqual(self.run_command(*words)[:2], (2, []))
 
     def test_larger_than_what_a_run_reads(self) -> None:
@@ -123,10 +124,10 @@ class Commands(Room):
         data = PEOPLE.read_bytes() + DOUBLE + PEOPLE.read_bytes() + DAMAGED
         path = str(self.file(data))
         place = f'document 1001, byte {len(data) - 2}, path "d": bad boolean'
-        for run, wanted in ((check_file, [place]), (dump_file, [*PEOPLE_LINES, LINES[0], *PEOPLE_LINES])):
+        for run, wanted in ((lambda *how: check_file(path, PROGRAM, *how), [place]), (lambda *how: Dumping(PROGRAM).print_file(path, *how), [*PEOPLE_LINES, LINES[0], *PEOPLE_LINES])):
             with open(self.room / "out", "w+b") as out, mock.patch("bsonfind._dumps.framing.LARGEST_INPUT", 30_000):
                 with mock.patch("sys.stdout", open(out.fileno(), "w", closefd=False)), mock.patch("sys.stderr", open(os.devnull, "w")) as err:
-                    self.assertFalse(run(path, PROGRAM, Console()))
+                    self.assertFalse(run(Console()))
                     err.close()
                 out.seek(0)
                 self.assertEqual(out.read().splitlines(), [it.encode() if isinstance(it, str) else it for it in wanted])

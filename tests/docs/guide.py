@@ -41,7 +41,7 @@ OPTIONAL = re.compile(r"(?:^|\| )(node|pv)\b")
 # A script that imports what a Python may not have.
 IMPORTS = re.compile(r"^(?:import |from bsonfind import .*\bto_)(pandas)$", re.MULTILINE)
 TOKEN = re.compile(r'(, token |"token":")A[\w+/]{59}(?![\w+/])')
-SCRIPTS = (".py", ".sh", ".mjs", ".jq")
+SCRIPTS = (".py", ".sh", ".mjs")
 # The lines of a block, without what its commands print.
 MOST_LINES = 15
 

@@ -117,14 +117,14 @@ class Request(NamedTuple):
 
     def words(self, file: str | None = None) -> list[str]:
         """The options of `find`, with the file of the filter, if it is in one."""
-        query = _option("query", self.filter) if file is None else [f"--queryFile={file}"]
-        return [*query, *_option("sort", self.sort), f"--skip={self.skip}", f"--limit={self.limit}"]
+        query = option("--query", self.filter) if file is None else [f"--queryFile={file}"]
+        return [*query, *option("--sort", self.sort), f"--skip={self.skip}", f"--limit={self.limit}"]
 
     def fields(self) -> list[tuple[str, str]]:
         """The further fields of a command, with the texts of their values."""
         return [("sort", self.sort), ("skip", str(self.skip)), ("limit", str(self.limit))]
 
 
-def _option(name: str, text: str) -> list[str]:
+def option(name: str, text: str) -> list[str]:
     """An option with a text, which no program takes for another option."""
-    return [f"--{name}={text}"] if len(text) < _LONGEST_BESIDE else [f"--{name}", text]
+    return [f"{name}={text}"] if len(text) < _LONGEST_BESIDE else [name, text]

@@ -12,6 +12,7 @@ from uuid import UUID
 from .._dumps.archive import Archive, is_archive
 from .._dumps.archive_frames import Namespace, joined_pieces
 from .._dumps.files import HEAD, member_of, name_in
+from .._dumps.gzip import is_gzip
 from .._dumps.printing import texts_of_values
 from .._dumps.sources import Source
 from .._errors import BsonfindError, is_finding, why
@@ -115,7 +116,8 @@ class _Grep:
                 if is_archive(head) and not member_of(name):
                     yield from self._items_of_archive(name, Archive(pieces))
                 else:
-                    yield from self._search(name, name, source.unpacked(pieces) if source.is_packed else pieces)
+                    is_packed = source.is_packed or name == "-" and is_gzip(head)
+                    yield from self._search(name, name, source.unpacked(pieces) if is_packed else pieces)
         except (BsonfindError, OSError) as error:
             yield [self._problem(name, name, error)]
         self._progress.add_file()

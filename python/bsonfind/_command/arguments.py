@@ -6,6 +6,7 @@ import argparse
 import os
 import re
 
+from . import layouts
 from .console import NAME, print_text
 
 # As `typing.TYPE_CHECKING`, without `typing`, which takes long to import.
@@ -17,8 +18,6 @@ if TYPE_CHECKING:
 
 # The statuses of commands.
 GOOD, FAULTY, FAILED = 0, 1, 2
-# The formats of lines, the first of which is that of all commands.
-FORMATS = ("canonical", "relaxed")
 # The greatest number that an option takes, as the program has it.
 MOST = 2_147_483_647
 # How many faults of a file `audit` reports one by one.
@@ -148,13 +147,20 @@ _LIST = _argument("--list", "F", "also the files whose names are the lines of F"
 _FILES = _argument("files", "FILE", "a dump, one by mongodump --gzip, or a directory of such files", nargs="*"), _LIST
 _ROWS = _flag("print a line of JSON for each row", "--json")
 _AS_BSON = _flag("print the documents as they are, in BSON", "--bson")
+# How `dump` and `find` print documents.
+_LAYOUT = tuple(((name,), {"choices": layouts.CHOICES[name], "help": help}) for name, help in (
+    ("--type", "csv: a header, and a row of these --fields for each document"), ("--jsonFormat", "relaxed: numbers and dates as mongoexport"),
+)) + (
+    _of_text("--fields", "A,B.C", "print these fields alone, and _id"),
+    _flag("leave _id out", "--noId"),
+    _flag("print one array of JSON", "--jsonArray"),
+    _flag("print each document on many lines", "--pretty"),
+    _flag("leave out the header of CSV", "--noHeaderLine"),
+)  # fmt: skip
 _USAGES = {"grep": "%(prog)s [options] TEXT FILE.. | --regex R FILE.."}
 _COMMANDS: Sequence[tuple[str, str, str, Sequence[Argument | list[Argument]]]] = (
     ("check", "Prints each fault of dumps; doubles and decimal128 are none.", _AS_THE_PROGRAM.format("good"), [_DUMPS]),
-    ("dump", "Prints the documents of dumps, one a line.", _PRINTED, [
-        (("--jsonFormat",), dict(choices=FORMATS, default=FORMATS[0], dest="format", help="relaxed: numbers and dates as mongoexport")),
-        _DUMPS,
-    ]),
+    ("dump", "Prints the documents of dumps, as lines, an array or CSV.", _PRINTED, [_DUMPS, *_LAYOUT]),
     ("pack", "Writes the dump of lines of Extended JSON.", _PRINTED.replace("printed", "packed"), [
         _argument("file", "FILE", "a text with a document on each line, as dump prints it, or - for standard input"),
     ]),
@@ -167,6 +173,7 @@ _COMMANDS: Sequence[tuple[str, str, str, Sequence[Argument | list[Argument]]]] =
         _of_number("--skip", "skip this many documents", 0, 0),
         _of_number("--limit", "print this many at most", 0, 0),
         _of_number("--batch", "print the next page of this many", 0),
+        *_LAYOUT,
         [_AS_BSON, _flag("print how many documents there are, and none of them", "--count")],
     ]),
     ("serve", "Replies to commands about a dump, one a line of standard input.",
@@ -244,3 +251,14 @@ _COMMANDS: Sequence[tuple[str, str, str, Sequence[Argument | list[Argument]]]] =
         _AS_BSON,
     ]),
 )  # fmt: skip
+
+
+def options_of(words: argparse.Namespace) -> list[str]:
+    """The options of `dump` or `find` that say what is printed, as the program takes them, unless some do not go together."""
+    from .._ask.requests import option
+
+    values = {name: getattr(words, name[2:], None) for name in ("--batch", "--bson", "--count", *layouts.NAMES)}
+    given = {name: value for name, value in values.items() if value is not None and value is not False}
+    if text := layouts.refusal(given):
+        raise Refused(text)
+    return [word for name, value in given.items() if name != "--batch" for word in ([name] if value is True else option(name, value))]

@@ -8,7 +8,7 @@ import stat
 from contextlib import suppress
 
 from .._errors import DumpError, is_finding, why
-from .arguments import FAILED, FAULTY, GOOD, Refused
+from .arguments import FAILED, FAULTY, GOOD, Refused, options_of
 from .console import Console, Progress, visible
 
 # As `typing.TYPE_CHECKING`, without `typing`, which takes long to import.
@@ -51,13 +51,20 @@ def _refuse_directory(command: str, name: str, front: str = "") -> None:
 def _run_check(words: argparse.Namespace) -> int:
     from .checks import check_file
 
-    return _run_each(words, check_file)
+    _refuse_twice(words.files)
+    return _run_each(words, Console(), lambda name, console, front: check_file(name, words.program, console, front))
 
 
 def _run_dump(words: argparse.Namespace) -> int:
-    from .checks import dump_file
+    from .dumping import Dumping
 
-    return _run_each(words, lambda name, program, console, front: dump_file(name, program, console, front, words.format))
+    options, console = options_of(words), Console()
+    _refuse_twice(words.files)
+    dumping = Dumping(words.program, options)
+    status = _run_each(words, console, dumping.print_file)
+    if status == GOOD:
+        dumping.end(console)
+    return status
 
 
 def _run_pack(words: argparse.Namespace) -> int:
@@ -72,15 +79,14 @@ def _run_pack(words: argparse.Namespace) -> int:
     return FAULTY
 
 
-def _run_each(words: argparse.Namespace, run_one: Callable[[str, str, Console, str], bool]) -> int:
+def _run_each(words: argparse.Namespace, console: Console, run_one: Callable[[str, Console, str], bool]) -> int:
     """Runs a command over one dump after the other. Of several each line that it says begins with the name."""
-    console, status = Console(), GOOD
-    _refuse_twice(words.files)
+    status = GOOD
     for name in words.files:
         front = f"{name}: " if len(words.files) > 1 else ""
         try:
             _refuse_directory(words.command, name, front)
-            status = max(status, GOOD if run_one(name, words.program, console, front) else FAULTY)
+            status = max(status, GOOD if run_one(name, console, front) else FAULTY)
         except DumpError as error:
             if not front:
                 raise
@@ -109,9 +115,8 @@ def _run_find(words: argparse.Namespace) -> int:
     from .._ask.requests import Request
     from .finding import Finding
 
-    if words.count and words.batch is not None:
-        raise Refused("--count does not go with --batch")
-    request, form = Request(words.query, words.sort, words.skip, words.limit), ("--bson",) * words.bson + ("--count",) * words.count
+    form = tuple(options_of(words))
+    request = Request(words.query, words.sort, words.skip, words.limit)
     finding = Finding(words.file, request, words.program, words.batch, words.index, words.after, form)
     return GOOD if finding.print(Console()) else FAULTY
 

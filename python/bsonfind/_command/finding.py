@@ -13,16 +13,14 @@ from .._dumps.framing import LARGEST_INPUT
 from .._dumps.originals import temporary_file
 from .._dumps.parts import MOST
 from .._dumps.sources import Source
-from .._errors import BsonfindError, CommandError, DumpError
+from .._errors import DumpError
 from .._run.processes import Dump, Run
 from .console import Console
-
-_BSON, _COUNT = "--bson", "--count"
 
 
 @dataclass
 class Finding:
-    """What is requested of a dump on a command line, by a program. The form is an option of it, none for lines."""
+    """What is requested of a dump on a command line, by a program. The form is its options that say what is printed, none for lines."""
 
     name: str
     request: Request
@@ -35,6 +33,8 @@ class Finding:
     def print(self, console: Console) -> bool:
         """Prints what is found; returns whether the dump has no fault."""
         try:
+            if any(it.startswith("--fields") for it in self.form):
+                self._try()
             with Source(self.name, is_named=True) as source:
                 if not source.is_packed and (source.size or 0) > LARGEST_INPUT:
                     self._print_parts(source, console)
@@ -45,9 +45,6 @@ class Finding:
                 raise
             console.problem(str(error))
             return False
-        except CommandError as error:
-            # As the program reports it.
-            raise BsonfindError(error.line or str(error)) from None
         return True
 
     def _print_all(self, source: Source) -> None:
@@ -65,11 +62,10 @@ class Finding:
         name = f"cannot read {self.name}: it has more than {LARGEST_INPUT} bytes"
         if self.batch is not None or self.after is not None:
             raise DumpError(f"{name}, and is asked by parts: leave --batch and --after out")
-        with self._run(Dump(), self.request, _COUNT) as run:
-            counted(run)  # A refused request is one at once.
+        self._try()
         with temporary_file() as found:
             for part in source.inputs(MOST):
-                with self._run(part.dump, self.request.of_part(), _BSON, stdout=found.fileno()) as run:
+                with self._run(part.dump, self.request.of_part(), "--bson", stdout=found.fileno()) as run:
                     try:
                         counted(run)
                     except DumpError as error:
@@ -81,6 +77,11 @@ class Finding:
             with self._run(Dump(file=found), self.request, *self.form, stdout=sys.stdout.fileno()) as run:
                 # It has a token of what was joined, which leads nowhere in the file.
                 console.note(f"{counted(run).documents} documents, end")
+
+    def _try(self) -> None:
+        """Asks no documents, so that a refused request, or refused fields, are reported before the dump is read."""
+        with self._run(Dump(), self.request, *self.form, stdout=subprocess.DEVNULL) as run:
+            counted(run)
 
     def _run(self, dump: Dump, request: Request, *options: str, stdout: int = subprocess.PIPE) -> Run:
         index = [] if self.index is None else [f"--index={self.index}"]

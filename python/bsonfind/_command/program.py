@@ -8,6 +8,7 @@ import stat
 
 from .. import __version__
 from .._run.program import located_wide, says
+from . import layouts
 
 # The signals that Python ignores by itself, and where `bsonkit` notes which ones the shell ignores, before Python begins.
 _IGNORED, _NOTED = (signal.SIGPIPE, signal.SIGXFSZ), "BSONKIT_IGNORED"
@@ -19,12 +20,11 @@ _OTHERS = (b"\x6d\xe2\x99\x81", b"\x1f\x8b")
 _OF_DUMPS, PACK, SERVE = ("check", "dump", "find"), "pack", "serve"
 # The option of `serve`.
 BY_VALUE = "--byValue"
-# The option of `dump`, with its values; and those of `find`, each with a text or a number, or with nothing.
-_FORMAT, _FORMATS = "--jsonFormat", ("canonical", "relaxed")
+# The options of `dump` and `find`: each with a text or a number, or with nothing, beside those that say how documents are printed.
 _TEXTS, _NUMBERS, _MOST = ("--query", "--sort", "--index", "--after"), ("--skip", "--limit", "--batch"), 2_147_483_647
 _FLAGS = ("--bson", "--count")
-# Options that do not go together.
-_EITHER = (("--bson", "--count"), ("--batch", "--count"))
+_WITH_VALUES = (*_TEXTS, *_NUMBERS, *layouts.TEXTS, *layouts.CHOICES)
+_OPTIONS = {"check": (), "dump": layouts.NAMES, "find": (*_WITH_VALUES, *_FLAGS, *layouts.FLAGS), PACK: ()}
 
 
 def become_program(words: list[str]) -> None:
@@ -77,10 +77,11 @@ def _split(words: list[str]) -> tuple[list[str], list[list[str]]]:
     options: list[list[str]] = []
     while words:
         name, equals, value = words[0].partition("=")
-        taken = words[: 1 if equals or name not in (*_TEXTS, *_NUMBERS, _FORMAT) else 2]
+        taken = words[: 1 if equals or name not in _WITH_VALUES else 2]
         del words[: len(taken)]
-        value = value if equals or len(taken) == 1 else taken[1]
-        if taken[0] in _FLAGS or (equals or len(taken) == 2) and _is_option(name, value):
+        if len(taken) == 2 and not taken[1].startswith("-"):
+            equals, value = "=", taken[1]
+        if taken[0] in (*_FLAGS, *layouts.FLAGS) or equals and _is_option(name, value):
             options.append(taken)
         else:
             files.extend(taken)
@@ -88,22 +89,19 @@ def _split(words: list[str]) -> tuple[list[str], list[list[str]]]:
 
 
 def _are_of(command: str, options: list[list[str]]) -> bool:
-    """Whether a command has these options, each once, and they go together: `dump` has that of a format, and `find` the others."""
-    names = [it[0].partition("=")[0] for it in options]
-    if command == "dump":
-        return names in ([], [_FORMAT])
-    is_whole = len({*names}) == len(names) and not any({*it} <= {*names} for it in _EITHER)
-    return not options or (command == "find" and _FORMAT not in names and is_whole)
+    """Whether a command has these options, each once, and they go together."""
+    given = {name: value for name, _, value in ("=".join(it).partition("=") for it in options)}
+    return len(given) == len(options) and {*given} <= {*_OPTIONS[command]} and layouts.refusal(given) is None
 
 
 def _is_option(name: str, value: str) -> bool:
     """Whether it is an option with a value that the program takes for one: else the command says what is wrong with it."""
-    if name == _FORMAT:
-        return value in _FORMATS
+    if name in layouts.CHOICES:
+        return value in layouts.CHOICES[name]
     if name in _NUMBERS:
         return value.isascii() and value.isdigit() and len(value) < 100 and int(value) <= _MOST
     try:
-        return name in _TEXTS and os.fsencode(value).decode() is not None
+        return name in (*_TEXTS, *layouts.TEXTS) and os.fsencode(value).decode() is not None
     except UnicodeDecodeError:
         return False
 

@@ -8,7 +8,7 @@ import signal
 import sys
 import threading
 
-from .._errors import BsonfindError
+from .._errors import BsonfindError, CommandError
 from .arguments import FAILED, FAULTY, Refused, parser
 from .commands import AS_THE_PROGRAM, run
 from .console import CannotWrite, NAME, need_output
@@ -41,6 +41,8 @@ def run_command(words: Sequence[str], name: str) -> int:
         return _INTERRUPTED
     except Refused as error:
         return _failed(str(error), FAILED)
+    except CommandError as error:
+        return _failed(error.line or str(error), failed)  # as the program reports it
     except (CannotWrite, BsonfindError) as error:
         return _failed(str(error), failed)
     except OSError as error:

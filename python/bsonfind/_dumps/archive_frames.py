@@ -9,9 +9,8 @@ from typing import Iterator, NamedTuple, Union
 from .._errors import DumpError
 from .elements import value_end
 from .framing import LONGEST, SHORTEST
-from .gzip import UnpackError, unpacked
+from .gzip import MAGIC, UnpackError, unpacked
 
-_GZIP = b"\x1f\x8b"
 # What is in place of a length after the last document of a block.
 _TERMINATOR = -1
 _length_at = struct.Struct("<i").unpack_from
@@ -40,10 +39,10 @@ class Namespace(NamedTuple):
 
 def plain(pieces: Iterator[bytes]) -> Iterator[bytes]:
     """The bytes of an archive, unpacked where they begin as those of gzip do."""
-    joined = joined_pieces(pieces, len(_GZIP))
+    joined = joined_pieces(pieces, len(MAGIC))
     first = next(joined, b"")
     pieces = chain([first], joined)
-    return unpacked(pieces) if first.startswith(_GZIP) else pieces
+    return unpacked(pieces) if first.startswith(MAGIC) else pieces
 
 
 def joined_pieces(pieces: Iterator[bytes], least: int) -> Iterator[bytes]:

@@ -9,6 +9,8 @@ from .._errors import DumpError
 
 # The most that a piece of a compressed file is unpacked to at once.
 _UNPACKED = 1 << 20
+# What a file of gzip begins with.
+MAGIC = b"\x1f\x8b"
 # What zlib takes as the format of gzip.
 _GZIP = 31
 
@@ -44,6 +46,15 @@ def unpacked(pieces: Iterable[bytes]) -> Iterator[bytes]:
         raise UnpackError("not a sound file of gzip: it is empty")
     if not unpack.eof:
         raise UnpackError("not a sound file of gzip: it ends too soon")
+
+
+def is_gzip(head: bytes) -> bool:
+    """Whether the first bytes of a file are those of gzip: they can be unpacked, which those of a document that begins alike cannot."""
+    try:
+        zlib.decompressobj(_GZIP).decompress(head)
+    except zlib.error:
+        return False
+    return head.startswith(MAGIC)
 
 
 def _before_fault(unpack: zlib._Decompress, piece: bytes) -> bytes:

@@ -4,7 +4,7 @@ from __future__ import annotations
 
 import re
 from io import BufferedReader
-from typing import Generator, Iterable, Sequence
+from typing import Generator, Iterable, Iterator, Sequence
 
 from .._errors import ProgramError
 from .._run.processes import Group, Run
@@ -59,3 +59,27 @@ def lines_of(pipe: BufferedReader) -> Batches:
             *lines, rest = b"".join(parts).split(b"\n")
             parts = [rest]
             yield lines
+
+
+class Array:
+    """One array out of those that runs print: what is between two documents comes in place of the brackets between two runs."""
+
+    def __init__(self, is_pretty: bool) -> None:
+        end = b"\n" if is_pretty else b""
+        self._opening, self._between, self.closing = b"[" + end, b"," + end, b"]\n" + end
+        self._is_begun = self._has_documents = False
+
+    def pieces(self, pipe: BufferedReader) -> Iterator[bytes]:
+        """What is printed of the array of a run, as it comes: not the bracket that closes it, which a run that failed does not print."""
+        opening, before, held = pipe.read(len(self._opening)), self._between if self._has_documents else b"", b""
+        if opening and not self._is_begun:
+            yield opening
+            self._is_begun = True
+        while piece := pipe.read1(_PIECE):
+            held += piece
+            if len(held) > len(self.closing):
+                yield before + held[: -len(self.closing)]
+                before, held, self._has_documents = b"", held[-len(self.closing) :], True
+        if held and held != self.closing:
+            yield before + held
+            self._has_documents = True

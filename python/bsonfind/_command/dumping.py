@@ -1,0 +1,65 @@
+"""The command `dump` over any dumps: what runs of the program print is one output, as of one run over all of them."""
+
+from __future__ import annotations
+
+import subprocess
+import sys
+from typing import Sequence
+
+from .._dumps.printing import Array, finish_dump
+from .._dumps.sources import Source
+from .._errors import DumpError, why
+from .._run.processes import Dump, Run
+from .._run.wide import wide_program
+from .console import Console
+
+
+class Dumping:
+    """The documents of dumps as they are printed: a header of CSV comes once, and an array is one, which is closed if nothing failed."""
+
+    def __init__(self, program: str, options: Sequence[str] = ()) -> None:
+        """The options are those of the program; fields that it refuses are refused before a dump is opened."""
+        self._wide, self._options = wide_program(program), list(options)
+        self._array = Array("--pretty" in options) if "--jsonArray" in options else None
+        if any(it.startswith("--fields") for it in options):
+            with self._run(Dump(), subprocess.DEVNULL) as run:
+                finish_dump(run)
+
+    def _run(self, dump: Dump, stdout: int) -> Run:
+        return Run.over(dump, self._wide, "dump", self._options, stdout=stdout)
+
+    def print_file(self, name: str, console: Console, front: str = "") -> bool:
+        """Prints the documents of a dump, and what is said of it after a text; gives whether no document is refused."""
+        documents, is_sound = 0, True
+        with Source(name, is_named=not front) as source:
+            try:
+                for part in source.inputs():
+                    documents = part.first
+                    try:
+                        documents += self._print(part.dump, console)
+                    except DumpError as error:
+                        documents += error.fault.document if error.fault else 0
+                        raise error.moved(part.first, part.offset) from None
+            except DumpError as error:
+                if not error.is_finding:
+                    raise
+                for it in dict.fromkeys([error, *source.errors]):
+                    console.problem(f"{front}{why(it)}")
+                is_sound = False
+        console.note(f"{front}{documents} objects found")
+        return is_sound
+
+    def _print(self, dump: Dump, console: Console) -> int:
+        """Has a run print the documents of a dump, and gives their number."""
+        sys.stdout.flush()
+        with self._run(dump, subprocess.PIPE if self._array else sys.stdout.fileno()) as run:
+            if "--type=csv" in self._options and "--noHeaderLine" not in self._options:
+                self._options.append("--noHeaderLine")
+            for piece in self._array.pieces(run.stdout) if self._array else ():
+                console.documents([piece])
+            return finish_dump(run)
+
+    def end(self, console: Console) -> None:
+        """Prints what comes after the last document, if nothing failed."""
+        if self._array:
+            console.documents([self._array.closing])
