@@ -36,6 +36,25 @@ DATE = re.compile(
     re.ASCII,
 )
 UUID = re.compile(r"[0-9a-fA-F]{8}(?:-[0-9a-fA-F]{4}){3}-[0-9a-fA-F]{12}", re.ASCII)
+# What `bsonwide` says to write in place of a word of mongosh, of a wrapper with other contents, and of a name without quotation marks.
+DATE_FORM, BINARY_FORM = 'write {"$date":"2026-10-01T00:00:00Z"}', 'write {"$binary":{"base64":"..","subType":".."}}'
+TIMESTAMP_FORM = 'write {"$timestamp":{"t":..,"i":..}}'
+FORMS = {f"${it}": f'write {{"${it}":".."}}' for it in ("numberInt", "numberLong", "numberDecimal", "numberDouble")}
+WORDS = {
+    "ObjectId(": 'write {"$oid":".."}', "ISODate(": DATE_FORM, "Date(": DATE_FORM, "UUID(": 'write {"$uuid":".."}',
+    "NumberInt(": FORMS["$numberInt"], "Int32(": FORMS["$numberInt"], "NumberLong(": FORMS["$numberLong"], "Long(": FORMS["$numberLong"],
+    "NumberDecimal(": FORMS["$numberDecimal"], "Decimal128(": FORMS["$numberDecimal"], "Double(": FORMS["$numberDouble"],
+    "NaN": 'write {"$numberDouble":"NaN"}', "Infinity": 'write {"$numberDouble":"Infinity"}', "Timestamp(": TIMESTAMP_FORM,
+    "BinData(": BINARY_FORM, "MinKey": 'write {"$minKey":1}', "MaxKey": 'write {"$maxKey":1}', "/": "regular expressions are not supported",
+    "'": "write names and strings in double quotation marks",
+}  # fmt: skip
+FORMS |= {
+    "$oid": 'write {"$oid":".."} with 24 hexadecimal digits', "$date": DATE_FORM, "$timestamp": TIMESTAMP_FORM, "$binary": BINARY_FORM,
+    "$uuid": 'write {"$uuid":"00112233-4455-6677-8899-aabbccddeeff"}',
+}  # fmt: skip
+NAMES = "write names in double quotation marks"
+BARE_NAME = re.compile(rb"[A-Za-z0-9_$.\x80-\xff]+[ \t\n\r]*:")
+FIRST_NAME = re.compile(rb'\{[ \t\n\r]*"(\$[A-Za-z]+)"')
 # A decimal128 has at most so many digits, and its exponent is in this range.
 DIGITS, LEAST, GREATEST = 34, -6176, 6111
 ESCAPES = {'"': '"', "\\": "\\", "/": "/", "b": "\b", "f": "\f", "n": "\n", "r": "\r", "t": "\t"}
@@ -409,3 +428,14 @@ def read_document(line: bytes, is_wide: bool = False) -> Value:
     if value.kind != "object":
         raise TextFault(NOT_A_DOCUMENT, 0)
     return value
+
+
+def advice(line: bytes, fault: TextFault) -> str | None:
+    """What `bsonwide` says to write in place of what a text has at the byte of its fault; None if it says nothing."""
+    rest = line[fault.at :]
+    if fault.number == SYNTAX:
+        # The first byte of `new` could begin `null`.
+        word = rest.removeprefix(b"ew ")
+        return next((form for it, form in WORDS.items() if word.startswith(it.encode())), NAMES if BARE_NAME.match(rest) else None)
+    found = FIRST_NAME.match(rest) if fault.number == BAD_WRAPPER else None
+    return FORMS.get(found[1].decode()) if found else None

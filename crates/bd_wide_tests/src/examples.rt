@@ -1,11 +1,13 @@
-//! The examples of use in the roots of `bd_wide_number`, `bd_wide_text`, `bd_wide`, `bd_wide_dump`, `bd_wide_layout` and `bd_wide_cli`,
-//! and runs of `bd_wide_cli`.
+//! The examples of use in the roots of `bd_wide_advice`, `bd_wide_number`, `bd_wide_text`, `bd_wide`, `bd_wide_dump`, `bd_wide_layout`
+//! and `bd_wide_cli`, and runs of `bd_wide_cli`.
 use bd_bson_check::{Profile, check_bytes};
 use bd_bson_view::ElementType;
 use bd_cli_args::{LayoutOptions, WordsFault};
 use bd_cli_scan::Status;
+use bd_extjson_fault::{JsonFault, JsonFaultKind};
 use bd_io_device::{MemoryInput, MemoryOutput};
 use bd_wide::number_in;
+use bd_wide_advice::advice_at;
 use bd_wide_cli::{Command, is_serve, report, run, version};
 use bd_wide_dump::{JsonFormat, WideTextBuffer};
 use bd_wide_layout::{Layout, LayoutBuffer};
@@ -18,6 +20,16 @@ fn code(rt: HostRuntime) {
     assert!(rt; code_of(Number::Double(0x3fe0_0000_0000_0000)) == Some(0x3fe0_0000_0000_0000));
     assert!(rt; code_of(Number::Whole(1)) == Some(0x3ff0_0000_0000_0000));
     assert!(rt; code_of(Number::Whole(0x7fff_ffff_ffff_ffff)) == None);
+}
+
+#[test]
+fn advised(rt: HostRuntime) {
+    let fault = JsonFault {
+        kind: JsonFaultKind::Syntax,
+        at: 7,
+    };
+    let advice = advice_at(b"{\"_id\":ObjectId(\"65f0\")}", fault);
+    assert!(rt; advice == Some("write {\"$oid\":\"..\"}"));
 }
 
 #[test]
