@@ -37,14 +37,16 @@ class CommandError(BsonfindError):
     def __init__(self, layer: str, number: int, text: str, place: str | int | None = None) -> None:
         super().__init__(layer, number, text, place)
         self.layer, self.number, self.text, self.place = layer, number, text, place
-        # The message of a run, which begins with the option that is refused.
+        # The message of a run, which begins with the option that is refused, and what it says to write instead.
         self.line: str | None = None
+        self.advice: str | None = None
 
     def __str__(self) -> str:
+        told = self.text if self.advice is None else f"{self.text}; {self.advice}"
         if self.place is None:
-            return f"{self.layer}: {self.text}"
+            return f"{self.layer}: {told}"
         where = f"byte {self.place}" if isinstance(self.place, int) else f'place "{self.place}"'
-        return f"{self.layer}: {where}: {self.text}"
+        return f"{self.layer}: {where}: {told}"
 
 
 class DumpError(BsonfindError):

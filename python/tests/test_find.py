@@ -418,6 +418,8 @@ class Commands(Dumps):
             (("--query", '{"price":{"$x":1}}'), 'query: place "price.$x": unknown operator'),
             (("--query", '{"price":1.5,"a":'), "query: byte 17: not JSON"),
             (("--query", ""), "query: byte 0: not JSON"),
+            (("--query", '{"price":NumberDecimal("1.5")}'), 'query: byte 9: not JSON; write {"$numberDecimal":".."}'),
+            (("--sort", "{price:1}"), "sort: byte 1: not JSON; write names in double quotation marks"),
             (("--sort", '{"price":2}'), "sort: not a sort"),
             (("--sort", '{"price":'), "sort: byte 9: not JSON"),
             (("--index", "a."), "index: empty component"),

@@ -64,6 +64,8 @@ class Queries(Room):
             self.assertEqual(self.query(*map(str, words), "--query", OLD, status=status, told=told), wanted)
         self.query(str(PEOPLE), "--query", '{"$a":1}', status=2, told='bsonkit: query: place "$a": unknown operator\n')
         self.query(str(PEOPLE), "--query", "{", status=2, told="bsonkit: query: byte 1: not JSON\n")
+        told = "bsonkit: query: byte 1: not JSON; write names in double quotation marks\n"
+        self.query(str(PEOPLE), "--query", "{age:5}", status=2, told=told)
         self.query(status=2, told="bsonkit: no dump is named\n")
         self.assertIn("argument --jobs: a number from 1", run_package("query", str(PEOPLE), "--jobs", "0").stderr)
 

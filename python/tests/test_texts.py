@@ -83,6 +83,7 @@ class Told(unittest.TestCase):
             ("bsonfind: query: byte 9: too deep\n", CommandError("json", 3, "too deep", 9)),
             ("bsonfind: query: not a document\n", CommandError("json", 2, "not a document", None)),
             ("bsonfind: sort: byte 0: not JSON\n", CommandError("json", 1, "not JSON", 0)),
+            ('bsonwide: query: byte 7: not JSON; write {"$oid":".."}\n', CommandError("json", 1, "not JSON", 7)),
             ("bsonfind: sort: not a sort\n", CommandError("session", 1, "not a sort", None)),
             ("bsonfind: token: token place past the dump\n", CommandError("session", 9, "token place past the dump", None)),
             ("bsonfind: index: too many components\n", CommandError("path", 2, "too many components", None)),
@@ -97,6 +98,8 @@ class Told(unittest.TestCase):
         self.assertEqual(str(CommandError("filter", 1, "unknown operator", "a.$b")), 'filter: place "a.$b": unknown operator')
         self.assertEqual(str(CommandError("json", 5, "not in the profile", 13)), "json: byte 13: not in the profile")
         self.assertEqual(str(CommandError("session", 1, "not a sort")), "session: not a sort")
+        told = error_of(1, 'bsonwide: query: byte 7: not JSON; write {"$oid":".."}\n')
+        self.assertEqual(str(told), 'json: byte 7: not JSON; write {"$oid":".."}')
 
 
 class Replies(unittest.TestCase):

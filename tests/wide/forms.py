@@ -1,5 +1,6 @@
 #!/usr/bin/env python3
-"""Packs lines with dates and UUIDs as people write them by `bsonwide`, beside the model and Python's `datetime` and `uuid`.
+"""Packs lines with dates and UUIDs as people write them by `bsonwide`, beside the model and Python's `datetime` and `uuid`; and asks
+queries and sorts as they stand in mongosh, of which `find` says what to write instead.
 
 usage: tests/wide/forms.py [PROGRAM] [LINES]     The last line is 'N passed, M failed'.
 """
@@ -14,12 +15,13 @@ from uuid import UUID
 sys.path.insert(0, str(Path(__file__).resolve().parents[1]))
 
 from model.answers import encoded
-from model.texts import NOT_A_DOCUMENT, TEXT_WORDS, TextFault, date_in, read_document
+from model.texts import NOT_A_DOCUMENT, TEXT_WORDS, WORDS, TextFault, advice, date_in, read_document
 from support import ROOT, Tests
 
 PROGRAM = Path(sys.argv[1]).resolve() if len(sys.argv) > 1 else ROOT / "bsonwide"
 LINES = int(sys.argv[2]) if len(sys.argv) > 2 else 2_000
 RNG = random.Random(57)
+NAMED = ("oid", "date", "uuid", "numberInt", "numberLong", "numberDecimal", "numberDouble", "timestamp", "binary")
 EPOCH = datetime(1970, 1, 1, tzinfo=timezone.utc)
 
 
@@ -85,8 +87,53 @@ def pack(text: str) -> tuple[bytes, bytes]:
     return made.stdout, made.stderr
 
 
+def asked(option: str, text: str) -> tuple[int, bytes, str]:
+    """What `find` says of a text over a dump of no documents."""
+    made = subprocess.run([PROGRAM, "find", "-", f"{option}={text}"], input=b"", capture_output=True, check=False)
+    return made.returncode, made.stdout, made.stderr.decode()
+
+
+def refused(option: str, text: str, is_wide: bool) -> tuple[int, bytes, str] | None:
+    """The same by the model; None if the text is a document."""
+    try:
+        read_document(text.encode(), is_wide)
+    except TextFault as fault:
+        at = "" if fault.number == NOT_A_DOCUMENT else f" byte {fault.at}:"
+        more = advice(text.encode(), fault)
+        return 1, b"", f"bsonwide: {option.removeprefix('--')}:{at} {TEXT_WORDS[fault.number - 1]}{f'; {more}' if more else ''}\n"
+    return None
+
+
+def try_advice(tests: Tests) -> None:
+    """The messages of texts of mongosh by hand; then each word, wrappers with other contents, and damaged texts, beside the model."""
+    for text, said in (
+        ('{"_id":ObjectId("65f0c1a2b3d4e5f601234567")}', 'byte 7: not JSON; write {"$oid":".."}'),
+        ('{"a":{"$gte":ISODate("2026-10-01")}}', 'byte 13: not JSON; write {"$date":"2026-10-01T00:00:00Z"}'),
+        ('{"a":new Date(5)}', 'byte 6: not JSON; write {"$date":"2026-10-01T00:00:00Z"}'),
+        ('{"a":NumberDecimal("9.99")}', 'byte 5: not JSON; write {"$numberDecimal":".."}'),
+        ('{"a":/^x/}', "byte 5: not JSON; regular expressions are not supported"),
+        ("{age:{$gt:5}}", "byte 1: not JSON; write names in double quotation marks"),
+        ('{"a":1, b.c : 2}', "byte 8: not JSON; write names in double quotation marks"),
+        ("{'a':5}", "byte 1: not JSON; write names and strings in double quotation marks"),
+        ('{"a":{"$date":"2026-10-01"}}', 'byte 5: bad wrapper; write {"$date":"2026-10-01T00:00:00Z"}'),
+        ('{"a":{ "$oid":"65f0"}}', 'byte 5: bad wrapper; write {"$oid":".."} with 24 hexadecimal digits'),
+        ('{"a":{"$binary":5}}', 'byte 5: bad wrapper; write {"$binary":{"base64":"..","subType":".."}}'),
+        ('{"a":nul}', "byte 8: not JSON"), ('{"a":x}', "byte 5: not JSON"), ("[]", "not a document"), ('{"a":1 :2}', "byte 7: not JSON"),
+        ('{"a":{"$code":5}}', "byte 5: bad wrapper"), ('{"a":1}ObjectId(', "byte 7: text after the document"), ("{", "byte 1: not JSON"),
+    ):  # fmt: skip
+        tests.want(text, asked("--query", text) == (1, b"", f"bsonwide: query: {said}\n"), asked("--query", text))
+    texts = [f'{{"a":{new}{word}"x")}}' for word in WORDS for new in ("", "new ", "[1,")]
+    texts += [f"{{{blank()}{name}{blank()}:1}}" for name in ("a", "$or", "a.b", "_id", "5", "größe", "a-b", "a b")]
+    texts += [f'{{"a":{{{blank()}"${name}"{blank()}:{of}}}}}' for name in (*NAMED, "code", "x") for of in ("5", '"no"', '{"a":1}', '"5","b":1')]
+    for text in [*texts, *(damaged(RNG.choice(texts)) for _ in range(LINES // 10))]:
+        for option, is_wide in (("--query", True), ("--sort", False)):
+            wanted = refused(option, text, is_wide)
+            tests.want(f"{option} {text}", wanted is None or asked(option, text) == wanted, (asked(option, text), wanted))
+
+
 def main() -> int:
     tests = Tests()
+    try_advice(tests)
     # The model beside Python's reader of ISO 8601, which has no year 0.
     for _ in range(LINES):
         text = a_date()

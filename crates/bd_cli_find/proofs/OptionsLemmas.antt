@@ -35,7 +35,7 @@ explain_refusal program err (plain refused) status reported = inl reported
 explain_refusal program err (bad_filter r) status reported = reported
 
 -- what needs a part that is refused is refused with its message
-part_refused : {Given Wanted : Type 0} (part : Result Given (List ℕ)) (next : Given → Result Wanted (List ℕ)) (fault : SearchFault)
+pub part_refused : {Given Wanted : Type 0} (part : Result Given (List ℕ)) (next : Given → Result Wanted (List ℕ)) (fault : SearchFault)
     → ReportsSearchFault part fault → ReportsSearchFault (then_part part next) fault
 part_refused part next faults.NoMemory is = tt
 part_refused part next (faults.Refused r) is = rw is refl

@@ -39,4 +39,4 @@ mod options;
 pub use around::{Around, print_around};
 pub use batch::{print_count, print_found};
 pub use laws::parts_print_the_whole;
-pub use options::{Search, SearchFault, json_message, read_search_with, report_refused};
+pub use options::{Search, SearchFault, json_message, report_refused, search_of};

@@ -71,7 +71,7 @@ pub(crate) fn read_search(alloc: Global, options: &FindOptions) -> Result<Search
 }
 
 /// What a query requests with the other options of `find`. The text of the query in the options is not read.
-pub fn read_search_with(
+fn read_search_with(
     alloc: Global,
     query: Document,
     options: &FindOptions,
@@ -86,8 +86,8 @@ pub fn read_search_with(
     search_of(alloc, query, sort, options)
 }
 
-/// What a query and a sort request, with the other options.
-fn search_of(
+/// What a query and a sort request, with the other options of `find`. Their texts in the options are not read.
+pub fn search_of(
     alloc: Global,
     query: Document,
     sort: Document,

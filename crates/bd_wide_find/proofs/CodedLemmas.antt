@@ -9,7 +9,7 @@ use Rattle.bd_bson_dump.specs.declared.collection.Dump.{Dump}
 use Rattle.bd_bson_view.specs.Spelling.{valued}
 use Rattle.bd_cursor_request.specs.{Request.Request, Request.named_index, Request.request_of, Request.request_text, Refused.Reason, Refused.error_as, Refused.reason_of, Refused.then_part, declared.token.Token.Token}
 use Rattle.bd_cli_args.specs.FindOptions.{FindOptions}
-use Rattle.bd_cli_find.specs.Options.{after_part, batch_part, document_in, index_fault_text, refused_text, requested_with, search_of}
+use Rattle.bd_cli_find.specs.Options.{after_part, batch_part, index_fault_text, refused_text, search_of}
 use Rattle.bd_cli_find.specs.Options.{ReportsSearchFault}
 use Rattle.bd_cli_find.specs.declared.options.SearchFault.{SearchFault}
 use Rattle.bd_cli_find.specs.declared.options.SearchFault.TheVariants as faults
@@ -19,7 +19,7 @@ use Rattle.bd_wide_copy.specs.{Classes.classed, Copy.number_as, Copy.number_code
 use Rattle.bd_wide_order.specs.{Query.renumber_request, Ranks.table_codes}
 use Rattle.bd_wide_copy.specs.declared.longs.Longs.{Longs}
 use Rattle.bd_wide_query.specs.Coded.{coded_query, valued_query}
-use Rattle.bd_wide_find.specs.Find.{IsNoRequest, IsRequest, request_by_value}
+use Rattle.bd_wide_find.specs.{Find.IsNoRequest, Find.IsRequest, Find.request_by_value, Options.requested_of, Options.sort_in}
 use Rattle.bd_wide_find.specs.Coded.{CopiesDump, IsTableOf}
 use Rattle.bd_wide_copy.proofs.ClassLemmas.{are_classed, document_numbers_widened, joined_widened}
 use Rattle.bd_wide_find.specs.inside.Fault.{ReportsAs}
@@ -83,9 +83,9 @@ module _ (options : FindOptions) (table : List ℤ) (longs : Longs) (numbers : L
 
   -- what the options ask of values, and of codes
   abbrev pub RequestsBoth : Type 0
-  RequestsBoth = ((r : Request) × (token : Option Token) × (text : List ℕ) × (requested_with options by_value ≡ Ok (r, token))
-      × (requested_with options with_codes ≡ Ok (renumber_request (table_codes table) text r, token)))
-      ⊎ ((message : List ℕ) × (requested_with options by_value ≡ Err message) × (requested_with options with_codes ≡ Err message))
+  RequestsBoth = ((r : Request) × (token : Option Token) × (text : List ℕ) × (requested_of options by_value ≡ Ok (r, token))
+      × (requested_of options with_codes ≡ Ok (renumber_request (table_codes table) text r, token)))
+      ⊎ ((message : List ℕ) × (requested_of options by_value ≡ Err message) × (requested_of options with_codes ≡ Err message))
 
   -- what follows the request
   abbrev after_request : Result Request Reason → Result (Request × Option Token) (List ℕ)
@@ -107,9 +107,9 @@ module _ (options : FindOptions) (table : List ℤ) (longs : Longs) (numbers : L
   both_after text r (Err m) index after v c e f = inr (m, e, f)
 
   pub requests_both : RequestsBoth
-  requests_both = of_sort (document_in (codes "sort") options.sort) refl
+  requests_both = of_sort (sort_in options.sort) refl
     where
-      of_sort : (sort : Result Doc (List ℕ)) → document_in (codes "sort") options.sort ≡ sort → RequestsBoth
+      of_sort : (sort : Result Doc (List ℕ)) → sort_in options.sort ≡ sort → RequestsBoth
       of_sort (Err m) is = inr (
         m,
         ap (λ (x : Result Doc (List ℕ)). then_part x (search_of options by_value)) is,
@@ -117,10 +117,10 @@ module _ (options : FindOptions) (table : List ℤ) (longs : Longs) (numbers : L
       )
       of_sort (Ok sort) is = of_request (request_of by_value sort options.skip options.limit) refl
         where
-          v_is : requested_with options by_value ≡ after_request (request_of by_value sort options.skip options.limit)
+          v_is : requested_of options by_value ≡ after_request (request_of by_value sort options.skip options.limit)
           v_is = ap (λ (x : Result Doc (List ℕ)). then_part x (search_of options by_value)) is
 
-          c_is : requested_with options with_codes ≡ after_request (request_of with_codes sort options.skip options.limit)
+          c_is : requested_of options with_codes ≡ after_request (request_of with_codes sort options.skip options.limit)
           c_is = ap (λ (x : Result Doc (List ℕ)). then_part x (search_of options with_codes)) is
 
           of_request : (x : Result Request Reason) → request_of by_value sort options.skip options.limit ≡ x → RequestsBoth
@@ -132,30 +132,30 @@ module _ (options : FindOptions) (table : List ℤ) (longs : Longs) (numbers : L
           of_request (Ok r) e =
               let text = request_text with_codes sort options.skip options.limit in
               both_after text r (error_as refused_text (batch_part options.batch)) (error_as index_fault_text (named_index options.index))
-              (error_as refused_text (after_part options.after)) (requested_with options by_value) (requested_with options with_codes)
+              (error_as refused_text (after_part options.after)) (requested_of options by_value) (requested_of options with_codes)
               (v_is ∙ ap after_request e) (c_is ∙ ap after_request (requests_are_read table longs numbers wholes texts sort options.skip options.limit r e))
 
   -- why the options ask nothing of codes is why they ask nothing by value
-  pub requests_nothing : (fault : SearchFault) → ReportsSearchFault (requested_with options with_codes) fault
+  pub requests_nothing : (fault : SearchFault) → ReportsSearchFault (requested_of options with_codes) fault
       → ReportsAs (IsNoRequest options longs numbers wholes texts table) fault
   requests_nothing faults.NoMemory reported = tt
   requests_nothing (faults.Refused refused) reported = of_message (refused_text (reason_of refused)) reported requests_both
     where
-      of_message : (m : List ℕ) → requested_with options with_codes ≡ Err m → RequestsBoth → IsNoRequest options longs numbers wholes texts table m
+      of_message : (m : List ℕ) → requested_of options with_codes ≡ Err m → RequestsBoth → IsNoRequest options longs numbers wholes texts table m
       of_message m is (inl (r, token, text, v, c)) = absurd (let no : ⊥ = cc in no)
       of_message m is (inr (n, v, c)) = inr (v ∙ sym c ∙ is)
   requests_nothing (faults.Message message) reported = of_message (string_bytes message) reported requests_both
     where
-      of_message : (m : List ℕ) → requested_with options with_codes ≡ Err m → RequestsBoth → IsNoRequest options longs numbers wholes texts table m
+      of_message : (m : List ℕ) → requested_of options with_codes ≡ Err m → RequestsBoth → IsNoRequest options longs numbers wholes texts table m
       of_message m is (inl (r, token, text, v, c)) = absurd (let no : ⊥ = cc in no)
       of_message m is (inr (n, v, c)) = inr (v ∙ sym c ∙ is)
 
   -- a request to codes is that by value with codes
-  pub requested_by_value : (coded : Request) (token : Option Token) → requested_with options with_codes ≡ Ok (coded, token)
-      → (r : Request) × (requested_with options by_value ≡ Ok (r, token)) × (coded ≡ renumber_request (table_codes table) coded.text r)
+  pub requested_by_value : (coded : Request) (token : Option Token) → requested_of options with_codes ≡ Ok (coded, token)
+      → (r : Request) × (requested_of options by_value ≡ Ok (r, token)) × (coded ≡ renumber_request (table_codes table) coded.text r)
   requested_by_value coded token is = go requests_both
     where
-      go : RequestsBoth → (r : Request) × (requested_with options by_value ≡ Ok (r, token)) × (coded ≡ renumber_request (table_codes table) coded.text r)
+      go : RequestsBoth → (r : Request) × (requested_of options by_value ≡ Ok (r, token)) × (coded ≡ renumber_request (table_codes table) coded.text r)
       go (inl (r, t, text, v, c)) =
           let same : Ok (renumber_request (table_codes table) text r, t) ≡ Ok (coded, token) = sym c ∙ is in
           let pair : (renumber_request (table_codes table) text r, t) ≡ (coded, token) = cc in
@@ -165,7 +165,7 @@ module _ (options : FindOptions) (table : List ℤ) (longs : Longs) (numbers : L
           (r, v ∙ ap (λ (x : Option Token). Ok (r, x)) tokens, sym request ∙ ap (λ (x : List ℕ). renumber_request (table_codes table) x r) texts_are)
       go (inr (m, v, c)) = absurd (let no : ⊥ = (let same : Err m ≡ Ok (coded, token) = sym c ∙ is in cc) in no)
 
-  module _ (coded : Request) (token : Option Token) (view : Request) (requested : requested_with options with_codes ≡ Ok (coded, token))
+  module _ (coded : Request) (token : Option Token) (view : Request) (requested : requested_of options with_codes ≡ Ok (coded, token))
       (beside : (r : Request) (text : List ℕ) → coded ≡ renumber_request (table_codes table) text r
       → view ≡ renumber_request (table_codes table) text (record r { filter = beside_nan table r.filter })) where
     -- the search with codes requests what the options ask by value

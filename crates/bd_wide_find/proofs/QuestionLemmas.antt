@@ -1,12 +1,13 @@
 -- What the options ask, or why they are refused.
-use Rattle.std.proofs.Common.{◌≡◌, ◌∙◌, List, ℕ, inl, inr, subst, string_bytes}
+use Rattle.std.proofs.Common.{◌≡◌, ◌∙◌, List, ℕ, Ok, inl, inr, subst, string_bytes}
 use Rattle.std.specs.Prelude.{ℤ, true, false}
 use Rattle.bd_value.specs.Tree.{AreParts, Doc, doc, fields_of, pairs_of-fields_of}
 use Rattle.bd_cursor_request.specs.Refused.{reason_of}
 use Rattle.bd_cli_args.specs.FindOptions.{FindOptions}
-use Rattle.bd_cli_find.specs.Options.{ReportsSearchFault, refused_text, requested_with}
+use Rattle.bd_cli_find.specs.Options.{ReportsSearchFault, refused_text, search_of}
 use Rattle.bd_cli_find.specs.declared.options.{SearchFault.SearchFault}
 use Rattle.bd_cli_find.specs.declared.options.SearchFault.TheVariants as faults
+use Rattle.bd_cli_find.proofs.OptionsLemmas.{part_refused}
 use Rattle.bd_wide_number.specs.declared.number.Number.{Number}
 use Rattle.bd_wide_rank.specs.Worth.{worth}
 use Rattle.bd_wide_copy.specs.Dump.{AreDocuments, AreJoinedBy}
@@ -15,7 +16,7 @@ use Rattle.bd_wide_copy.specs.declared.longs.Longs.{Longs}
 use Rattle.bd_wide_copy.proofs.ClassLemmas.{are_classed}
 use Rattle.bd_wide_query.specs.Types.{has_two_classes, longs_of}
 use Rattle.bd_wide_substitute.specs.Both.{IsRead}
-use Rattle.bd_wide_find.specs.Find.{IsNoRequest, IsRefused, IsRefusedOver, types_message}
+use Rattle.bd_wide_find.specs.{Find.IsNoRequest, Find.IsRefused, Find.IsRefusedOver, Find.types_message, Options.requested_of, Options.sort_in}
 use Rattle.bd_wide_find.specs.declared.coded.Coded.{Coded}
 use Rattle.bd_wide_find.specs.Coded.{CopiesDump, IsTableOf}
 use Rattle.bd_wide_find.specs.inside.Fault.{ReportsAs}
@@ -27,10 +28,19 @@ parts_are d ps are = are ∙ pairs_of-fields_of d
 
 -- what the options ask is refused
 pub refused_options : (text : List ℕ) (options : FindOptions) (wholes texts : Doc) (numbers : List Number) → IsRead text wholes texts numbers
-    → (fault : SearchFault) → ReportsSearchFault (requested_with options texts) fault → ReportsAs (IsRefused text options) fault
+    → (fault : SearchFault) → ReportsSearchFault (requested_of options texts) fault → ReportsAs (IsRefused text options) fault
 refused_options text options wholes texts numbers read faults.NoMemory reported = tt
 refused_options text options wholes texts numbers read (faults.Refused refused) reported = inr (wholes, texts, numbers, read, reported)
 refused_options text options wholes texts numbers read (faults.Message message) reported = inr (wholes, texts, numbers, read, reported)
+
+module _ (options : FindOptions) (query : Doc) where
+  -- what the options request is refused if the sort is, or what follows it
+  pub sort_refused : (fault : SearchFault) → ReportsSearchFault (sort_in options.sort) fault → ReportsSearchFault (requested_of options query) fault
+  sort_refused = part_refused (sort_in options.sort) (search_of options query)
+
+  pub search_refused : (sort : Doc) (fault : SearchFault) → sort_in options.sort ≡ Ok sort
+      → ReportsSearchFault (search_of options query sort) fault → ReportsSearchFault (requested_of options query) fault
+  search_refused sort fault s none = rw s none
 
 -- a message of one property is one of a weaker
 pub reports_more : (Is More : List ℕ → Type 0) → ((message : List ℕ) → Is message → More message) → (fault : SearchFault) → ReportsAs Is fault

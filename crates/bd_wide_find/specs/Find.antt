@@ -12,7 +12,7 @@ use Rattle.bd_cli_args.specs.FindOptions.{FindOptions}
 use Rattle.bd_cli_args.specs.declared.wide_line.Form.{Form}
 use Rattle.bd_cli_scan.specs.{Input.ReadsInput, Run.Run, Run.partial_run, Output.fault_text, Output.refusal_output}
 use Rattle.bd_cli_find.specs.Find.{Around, Printing, around_documents, each_document, found_run, their_count}
-use Rattle.bd_cli_find.specs.Options.{json_fault_text, requested_with}
+use Rattle.bd_cli_find.specs.Options.{json_fault_text}
 use Rattle.bd_wide_layout.specs.Layout.{LayoutView, closing, ending, opening, separator}
 use Rattle.bd_wide_number.specs.declared.number.Number.{Number}
 use Rattle.bd_wide_rank.specs.{Rank.AreDistinct, Rank.HaveSame, Rank.code, Worth.worth}
@@ -20,19 +20,19 @@ use Rattle.bd_wide_copy.specs.declared.longs.Longs.{Longs}
 use Rattle.bd_wide_copy.specs.{Classes.classed, Dump.AreJoinedBy, Dump.IsCopyOfDump, Dump.IsDocumentAt, Dump.IsFirstFault, Numbers.document_numbers}
 use Rattle.bd_wide_substitute.specs.Both.{IsRead, IsUnread}
 use Rattle.bd_wide_query.specs.{Coded.coded_query, Coded.valued_query, Nan.beside_nan, Types.has_two_classes, Types.longs_of}
-use Rattle.bd_wide_find.specs.Printer.{IsLaidOutText}
+use Rattle.bd_wide_find.specs.{Options.advised_text, Options.requested_of, Printer.IsLaidOutText}
 
 -- ---- what is requested
 
 -- The text of a query is refused with this message.
 abbrev pub IsRefusedText : List ℕ → List ℕ → Type 0
-IsRefusedText text message = (fault : JsonFault) × IsUnread text fault × (message ≡ json_fault_text (codes "query") fault)
+IsRefusedText text message = (fault : JsonFault) × IsUnread text fault × (message ≡ advised_text (codes "query") text fault)
 
 -- The query with this text, or one of the other options, is refused with this message, whatever the file contains.
 abbrev pub IsRefused : List ℕ → FindOptions → List ℕ → Type 0
 IsRefused text options message = IsRefusedText text message
     ⊎ ((wholes : Doc) × (texts : Doc) × (numbers : List Number) × IsRead text wholes texts numbers
-    × (requested_with options texts ≡ Err message))
+    × (requested_of options texts ≡ Err message))
 
 -- What the text of a query and the other options ask: a query, as two documents and the numbers where they differ.
 pub record IsAccepted (text : List ℕ) (options : FindOptions) : Type 0 where
@@ -42,7 +42,7 @@ pub record IsAccepted (text : List ℕ) (options : FindOptions) : Type 0 where
   pub read : IsRead text wholes texts numbers
   pub request : Request
   pub token : Option Token
-  pub requested : requested_with options texts ≡ Ok (request, token)
+  pub requested : requested_of options texts ≡ Ok (request, token)
 
 -- ---- the answer by value
 
@@ -56,9 +56,9 @@ pub record HasTable (longs : Longs) (bytes : List ℕ) (ds : List Doc) (table : 
 pub record IsRequest (options : FindOptions) (longs : Longs) (numbers : List Number) (wholes texts : Doc) (table : List ℤ) : Type 0 where
   pub request : Request
   pub token : Option Token
-  pub requested : requested_with options (valued_query longs numbers wholes texts) ≡ Ok (request, token)
+  pub requested : requested_of options (valued_query longs numbers wholes texts) ≡ Ok (request, token)
   pub coded : Request
-  pub written : requested_with options (coded_query table longs numbers wholes texts) ≡ Ok (coded, token)
+  pub written : requested_of options (coded_query table longs numbers wholes texts) ≡ Ok (coded, token)
 
 -- the message for a query whose `$type`s need more than two classes of numbers
 abbrev pub types_message : List ℕ
@@ -69,7 +69,7 @@ abbrev pub IsNoRequest : FindOptions → Longs → List Number → Doc → Doc �
 IsNoRequest options longs numbers wholes texts table message =
     ((Fits (doc (fields_of (coded_query table longs numbers wholes texts))) → ⊥)
     × (message ≡ json_fault_text (codes "query") (record { kind = NotADocument; at = 0 })))
-    ⊎ (requested_with options (valued_query longs numbers wholes texts) ≡ Err message)
+    ⊎ (requested_of options (valued_query longs numbers wholes texts) ≡ Err message)
 
 -- A request by value to documents by value, in which each number is in one of the two classes that each `$type` of the query treats
 -- alike. Its tokens have the digest of a copy of the dump, in which each number is its rank among those of the dump, and of the text of

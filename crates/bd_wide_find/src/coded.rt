@@ -13,9 +13,10 @@ ghost use Rattle.bd_wide_find.specs.Coded.{CopiesDump, IsTableOf};
 ghost use Rattle.bd_wide_find.specs.inside.Fault.{ReportsAs};
 ghost use Rattle.bd_wide_find.specs.inside.Question.{SearchesBy, SearchesCopy};
 
+use crate::options::read_search;
 use bd_bson_dump::{Dump, index_dump};
 use bd_cli_args::FindOptions;
-use bd_cli_find::{Search, SearchFault, json_message, read_search_with};
+use bd_cli_find::{Search, SearchFault, json_message};
 use bd_cursor_request::Request;
 use bd_extjson_fault::{JsonFault, JsonFaultKind};
 use bd_value::NoMemory;
@@ -97,7 +98,7 @@ fn coded_search(
         request,
         index,
         token,
-    } = read_search_with(alloc, coded, options)?;
+    } = read_search(alloc, coded, options)?;
     let request = beside_nan(alloc, request, table)?;
     Ok(Search {
         request,

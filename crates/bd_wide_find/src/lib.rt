@@ -44,6 +44,7 @@
 //!
 //! - `find`: the command, over any devices: `specs/Find.antt`.
 //! - `question`: what its query and its options ask.
+//! - `options`: what the options request, and the messages for texts that are refused: `specs/Options.antt`.
 //! - `load`: `load_wide`, a dump of all types in memory: `specs/Load.antt`.
 //! - `coded`: the search with codes, and the copy that is searched: `specs/Coded.antt`.
 //! - `printer`: what prints the documents of the dump, in a layout, and `WidePrinter`, in canonical form: `specs/Printer.antt`;
@@ -55,6 +56,7 @@ mod coded;
 pub mod find;
 mod laws;
 mod load;
+mod options;
 mod printer;
 mod question;
 

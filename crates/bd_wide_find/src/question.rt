@@ -3,13 +3,14 @@
 ghost use Rattle.std.specs.Prelude.{◌≡◌, IfErr, IfOk, OnOk, Ok, true};
 ghost use Rattle.bd_value.specs.View.{pairs};
 ghost use Rattle.bd_cursor_request.specs.Request.{request_view};
-ghost use Rattle.bd_cli_find.specs.Options.{fits_batch, requested_with};
+ghost use Rattle.bd_cli_find.specs.Options.{fits_batch};
 ghost use Rattle.bd_wide_substitute.specs.Both.{IsRead};
-ghost use Rattle.bd_wide_find.specs.Find.{IsRefused, IsRefusedText};
+ghost use Rattle.bd_wide_find.specs.{Find.IsRefused, Find.IsRefusedText, Options.requested_of};
 ghost use Rattle.bd_wide_find.specs.inside.Fault.{ReportsAs};
 
+use crate::options::{read_search, text_message};
 use bd_cli_args::FindOptions;
-use bd_cli_find::{Search, SearchFault, json_message, read_search_with};
+use bd_cli_find::{Search, SearchFault};
 use bd_extjson_fault::JsonFaultKind;
 use bd_value::{Reading, Tree, to_document};
 use bd_wide_query::{WideQuery, read_query};
@@ -31,14 +32,14 @@ pub(crate) fn read_question(
 ) -> Result<Question, SearchFault>
     ensures query { IfOk result (λ q. IsRead text.now
         (pairs q.query.wholes) (pairs q.query.texts) q.query.numbers.items) }
-    ensures search { IfOk result (λ q. requested_with options.now (pairs q.query.texts)
+    ensures search { IfOk result (λ q. requested_of options.now (pairs q.query.texts)
         ≡ Ok (request_view q.search.request, q.search.token)) }
     ensures fits { OnOk result (fits_batch options.now.batch ≡ true) }
     ensures fault { IfErr result (ReportsAs (IsRefused text.now options.now)) }
 {
     let query = read_text(alloc, text)?;
     let copy = to_document::<Tree<'_>>(alloc, Tree::Doc(&query.texts).parts())?;
-    let search = read_search_with(alloc, copy, options)?;
+    let search = read_search(alloc, copy, options)?;
     Ok(Question { query, search })
 }
 
@@ -52,7 +53,7 @@ fn read_text(alloc: Global, text: &[u8]) -> Result<WideQuery, SearchFault>
         Ok(query) => Ok(query),
         Err(fault) => match fault.kind {
             JsonFaultKind::NoMemory => Err(SearchFault::NoMemory),
-            _ => Err(SearchFault::Message(json_message(alloc, "query", fault)?)),
+            _ => Err(SearchFault::Message(text_message(alloc, "query", text, fault)?)),
         },
     }
 }

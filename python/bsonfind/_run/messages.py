@@ -54,7 +54,8 @@ def _refusal(line: str) -> CommandError | None:
     found = _REFUSAL.fullmatch(line)
     if not found:
         return None
-    option, byte, place, words = found.groups()
+    option, byte, place, told = found.groups()
+    words, _, advice = told.partition("; ")
     layer = "path" if option == "index" else "numbers" if words in _WORDS["numbers"] else "filter" if place else "json"
     where = json.loads(place) if place else int(byte) if byte else None
     if words in _SESSION:
@@ -63,5 +64,5 @@ def _refusal(line: str) -> CommandError | None:
         refused = CommandError(layer, _WORDS[layer].index(words) + 1, words, where)
     else:
         return None
-    refused.line = line
+    refused.line, refused.advice = line, advice or None
     return refused

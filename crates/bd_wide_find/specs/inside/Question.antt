@@ -3,7 +3,7 @@ use Rattle.std.specs.Prelude.{◌≡◌, ℤ, true, List, ℕ, Ok}
 use Rattle.bd_value.specs.{Tree.Doc, Tree.fields_of, View.pairs}
 use Rattle.bd_cursor_request.specs.Request.{request_view}
 use Rattle.bd_cli_args.specs.FindOptions.{FindOptions}
-use Rattle.bd_cli_find.specs.Options.{fits_batch, requested_with}
+use Rattle.bd_cli_find.specs.Options.{fits_batch}
 use Rattle.bd_cli_find.specs.declared.options.Search.{Search}
 use Rattle.bd_wide_number.specs.declared.number.Number.{Number}
 use Rattle.bd_wide_order.specs.{Query.renumber_request, Ranks.table_codes}
@@ -11,14 +11,14 @@ use Rattle.bd_wide_copy.specs.declared.longs.Longs.{Longs}
 use Rattle.bd_wide_query.specs.Types.{has_two_classes, longs_of}
 use Rattle.bd_wide_substitute.specs.Both.{IsRead}
 use Rattle.bd_wide_find.specs.Coded.{CopiesDump}
-use Rattle.bd_wide_find.specs.Find.{HasTable, IsRequest, request_by_value}
+use Rattle.bd_wide_find.specs.{Find.HasTable, Find.IsRequest, Find.request_by_value, Options.requested_of}
 use Rattle.bd_wide_find.specs.declared.question.Question.{Question}
 use Rattle.bd_wide_find.specs.declared.coded.Coded.{Coded}
 
 -- The question is what the text of a query and the options ask.
 pub record ReadsOptions (text : List ℕ) (options : FindOptions) (q : Question) : Type 0 where
   pub read : IsRead text (pairs q.query.wholes) (pairs q.query.texts) q.query.numbers.items
-  pub requested : requested_with options (pairs q.query.texts) ≡ Ok (request_view q.search.request, q.search.token)
+  pub requested : requested_of options (pairs q.query.texts) ≡ Ok (request_view q.search.request, q.search.token)
   pub fits : fits_batch options.batch ≡ true
 
 -- The search is that of the query with codes: ranks among the numbers of a table.
