@@ -1,14 +1,16 @@
 //! Numbers that are doubles, by their keys.
 
-ghost use Rattle.std.specs.Prelude.{◌∷◌, ◌≡◌, [], OnErr, OnOk};
-ghost use Rattle.std.specs.List.{All};
+ghost use Rattle.std.specs.Prelude.{◌∷◌, ◌≡◌, ◌<◌, ◌≤◌, ◌-◌, ◌*◌, [], IfSome, OnErr, OnOk, length, slice_index, true};
+ghost use Rattle.std.specs.List.{All, HoldsAt};
 ghost use Rattle.std.specs.List.Sorted.{IsStrictlyIncreasing};
 ghost use Rattle.std.proofs.Props.{props};
 ghost use Rattle.bd_wide_rank.specs.Rank.{HaveSame, rank};
 ghost use Rattle.bd_wide_rank.specs.Key.{key_worth};
+ghost use Rattle.bd_wide_rank.specs.Rows.{between_worth};
 ghost use Rattle.bd_wide_rank.specs.inside.Key.{IsKey};
 
-use crate::hints::Hints;
+use crate::between::Between;
+use crate::hints::{Hints, TRIES};
 use crate::position::Position;
 use bd_value::NoMemory;
 use std::alloc::Global;
@@ -63,7 +65,7 @@ impl Doubles {
         ensures rising { IsStrictlyIncreasing self.new.keys.items }
     {
         self.drop_repeats();
-        self.hints.renew(&self.keys);
+        note_all(&mut self.hints, &self.keys);
     }
 
     /// Sorts the doubles, and drops repeats.
@@ -76,22 +78,58 @@ impl Doubles {
         self.limit = self.keys.len().saturating_mul(4).max(LEAST_LIMIT);
     }
 
-    /// The rank of a number among the doubles.
-    pub(crate) fn rank(&self, position: Position) -> u64
+    /// The index of a double, if a hint finds it.
+    pub(crate) fn find(&self, key: u64) -> Option<usize>
+        ensures { IfSome result (λ i. (i < length self.now.keys.items)
+            × HoldsAt (λ k. k ≡ key) self.now.keys.items i) }
+    {
+        for tried in 0..TRIES {
+            let index = self.hints.guess(key, tried)?;
+            if *self.keys.get(index)? == key {
+                return Some(index);
+            }
+        }
+        None
+    }
+
+    /// The rank of a number among the doubles, from a guess at how many are less.
+    pub(crate) fn rank(&self, position: Position, guess: usize) -> u64
         requires rising { IsStrictlyIncreasing self.now.keys.items }
         requires position { IsPosition position }
         ensures { result ≡ rank (key_worths self.now.keys.items) (position_worth position) }
     {
         match position {
-            Position::Double(key) => match self.hints.find(&self.keys, key) {
+            Position::Double(key) => match self.find(key) {
                 Some(i) => 2 * i as u64 + 1,
                 None => self.searched_rank(key),
             },
-            Position::Between(number) => match self.keys.binary_search(&number.key) {
-                Ok(i) => 2 * i as u64 + 2,
-                Err(i) => 2 * i as u64,
-            },
+            Position::Between(number) => self.rank_between(number, guess),
         }
+    }
+
+    /// The rank of a number that no double equals, from a guess at how many doubles are less.
+    fn rank_between(&self, number: Between, guess: usize) -> u64
+        requires { IsStrictlyIncreasing self.now.keys.items }
+        ensures { result ≡ rank (key_worths self.now.keys.items) (between_worth number) }
+    {
+        if self.are_less(number, guess) {
+            return 2 * guess as u64;
+        }
+        match self.keys.binary_search(&number.key) {
+            Ok(i) => 2 * i as u64 + 2,
+            Err(i) => 2 * i as u64,
+        }
+    }
+
+    /// Whether that many doubles are less than a number that no double equals.
+    fn are_less(&self, number: Between, count: usize) -> bool
+        requires { IsStrictlyIncreasing self.now.keys.items }
+        ensures { result ≡ true → (count ≤ length self.now.keys.items)
+            × (rank (key_worths self.now.keys.items) (between_worth number) ≡ 2 * count) }
+    {
+        let below = ends_below(&self.keys, count, number.key);
+        let above = starts_above(&self.keys, count, number.key);
+        below && above
     }
 
     /// The rank of a double among these, by a search.
@@ -104,5 +142,34 @@ impl Doubles {
             Ok(i) => 2 * i as u64 + 1,
             Err(i) => 2 * i as u64,
         }
+    }
+}
+
+/// Notes where the doubles of a row are.
+fn note_all(hints: &mut Hints, keys: &[u64]) {
+    hints.renew(keys.len());
+    for index in 0..keys.len() {
+        hints.note(keys[index], index);
+    }
+}
+
+/// Whether the key before an index, if it is not 0, is at most another one.
+fn ends_below(keys: &[u64], index: usize, key: u64) -> bool
+    ensures { result ≡ true → 0 < index →
+        (index ≤ length keys.now) × (slice_index keys.now (index - 1) ≤ key) }
+{
+    match keys.get(index.wrapping_sub(1)) {
+        Some(last) => *last <= key,
+        None => index == 0,
+    }
+}
+
+/// Whether the key at an index, if there is one, is greater than another one.
+fn starts_above(keys: &[u64], index: usize, key: u64) -> bool
+    ensures { result ≡ true → index < length keys.now → key < slice_index keys.now index }
+{
+    match keys.get(index) {
+        Some(next) => key < *next,
+        None => true,
     }
 }

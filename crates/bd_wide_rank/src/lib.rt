@@ -26,7 +26,7 @@
 //! - `numbers`: `Numbers`, the numbers of a dump on the way to a table.
 //! - `table`: `Table`, the distinct numbers of a dump, and the code of any number among them.
 //! - `doubles`, `others`: the two rows of a table: doubles by their keys, and numbers that no double equals.
-//! - `hints`: guesses at the places of keys.
+//! - `hints`: guesses at the places of the numbers of a row in it; `guesses`: in the other row.
 //! - `key`: keys of doubles (`specs/Key.antt`).
 //! - `position`, `between`: where numbers are beside the doubles.
 //! - `positioned`, `guess`: the position of a number, from a guess.
@@ -37,6 +37,7 @@ mod between;
 mod compare;
 mod doubles;
 mod guess;
+mod guesses;
 mod hints;
 mod key;
 mod laws;

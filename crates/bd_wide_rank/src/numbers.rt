@@ -6,6 +6,7 @@ ghost use Rattle.bd_wide_rank.specs.Table.{collected, worths};
 ghost use Rattle.bd_wide_rank.specs.Worth.{worth_of};
 
 use crate::doubles::Doubles;
+use crate::guesses::Guesses;
 use crate::others::Others;
 use crate::position::Position;
 use crate::positioned::positioned;
@@ -15,11 +16,13 @@ use bd_wide_number::Number;
 use std::alloc::Global;
 
 /// Numbers on the way to a table. Repeats are dropped whenever there are four times as many as after the last time, so the memory is
-/// that of the distinct numbers: 16 bytes for one that a double equals and 32 for any other, and a few times that while it grows.
+/// that of the distinct numbers: 16 bytes for one that a double equals and 40 for any other, 4 more for each if there are both, and a
+/// few times that while it grows.
 #[derive(Drop)]
 pub struct Numbers {
     doubles: Doubles,
     others: Others,
+    guesses: Guesses,
 }
 
 /// There are 2 ^ 30 distinct numbers or more.
@@ -37,6 +40,7 @@ impl Numbers {
         Numbers {
             doubles: Doubles::new(alloc),
             others: Others::new(alloc),
+            guesses: Guesses::new(alloc),
         }
     }
 
@@ -73,12 +77,18 @@ impl Numbers {
         let Numbers {
             mut doubles,
             mut others,
+            mut guesses,
         } = self;
         doubles.sort();
         others.sort();
         if doubles.keys.len() + others.numbers.len() > MOST {
             return Err(TooMany);
         }
-        Ok(Table { doubles, others })
+        guesses.note_all(&doubles.keys, &others.numbers);
+        Ok(Table {
+            doubles,
+            others,
+            guesses,
+        })
     }
 }

@@ -11,6 +11,7 @@ ghost use Rattle.bd_wide_rank.specs.Worth.{value_worth, worth, worth_of};
 ghost use Rattle.bd_wide_rank.specs.inside.Rows.{between_cmp};
 
 use crate::doubles::Doubles;
+use crate::guesses::Guesses;
 use crate::others::Others;
 use crate::position::{Position, is_nan};
 use crate::positioned::positioned;
@@ -25,6 +26,7 @@ use std::alloc::Global;
 pub struct Table {
     pub(crate) doubles: Doubles,
     pub(crate) others: Others,
+    pub(crate) guesses: Guesses,
     ghost rising: { IsStrictlyIncreasing doubles.keys.items } by { Prim.hlevel props },
     ghost sorted: { IsStrictlySortedBy between_cmp others.numbers.items } by { Prim.hlevel props },
     ghost fits: { length doubles.keys.items + length others.numbers.items < 2 ^ 30 },
@@ -39,7 +41,21 @@ impl Table {
     pub fn code(&self, number: Number) -> i32
         ensures { result ≡ code_of (worths self.now) (worth_of number) }
     {
-        self.code_at(positioned(number))
+        self.code_at(self.position(number))
+    }
+
+    /// The position of a number, by a hint at a decimal128 of the table.
+    fn position(&self, number: Number) -> Position
+        ensures is { IsPosition result }
+        ensures worth { position_worth result ≡ worth_of number }
+    {
+        let Number::Decimal128(..) = number else {
+            return positioned(number);
+        };
+        match self.others.find(number) {
+            Some(i) => Position::Between(self.others.numbers[i]),
+            None => positioned(number),
+        }
     }
 
     /// The code of a number, by its position.
@@ -90,7 +106,16 @@ impl Table {
         ensures is { result ≡ rank (worths self.now) (position_worth position) }
         ensures fits_i32 { result < 2 ^ 31 }
     {
-        self.doubles.rank(position) + self.others.rank(position)
+        let guess = self.guess(position);
+        self.doubles.rank(position, guess) + self.others.rank(position, guess)
+    }
+
+    /// A guess at how many numbers of the row in which a number is not are less.
+    fn guess(&self, position: Position) -> usize {
+        match position {
+            Position::Double(key) => self.guesses.of_double(self.doubles.find(key)),
+            Position::Between(number) => self.guesses.of_other(self.others.find(number.number)),
+        }
     }
 
     /// How many numbers are in the table.

@@ -1,8 +1,5 @@
 use Rattle.std.proofs.Common.{sym}
-use Rattle.std.proofs.lemmas.List.Sorted.{searched}
-use Rattle.bd_wide_rank.specs.Worth.{worth_of}
-use Rattle.bd_wide_rank.proofs.RowLemmas.{between_found, between_not_found, double_found, keys_up}
-use Rattle.std.specs.declared.result.Result.TheVariants.{Ok, Err}
+use Rattle.bd_wide_rank.proofs.RowLemmas.{double_found}
 use Rattle.bd_wide_rank.proofs.doubles.Doubles.rank.Goals as goal
 
 pub returns-in-Some : goal.returns-in-Some
@@ -10,23 +7,4 @@ returns-in-Some c =
     let row = c.args.self.now in
     let keys = row.keys.items in
     let i = c.in-Some.i in
-    let found = rw c.deref.ensures.value at c.in-Some.ensures in
-    rw c.in-Double.is (sym (double_found keys row.are_keys c.requires.rising c.in-Double.key i found.0 (found.1 0)))
-
-pub returns-in-Ok : goal.returns-in-Ok
-returns-in-Ok c =
-    let row = c.args.self.now in
-    let keys = row.keys.items in
-    let i = c.in-Ok.i in
-    let b = c.in-Between.number in
-    let found = searched keys b.key (Ok i) (rw c.deref-in-Between.ensures.value at c.in-Ok.ensures.position) (keys_up keys c.requires.rising) in
-    rw c.in-Between.is (sym (between_found keys row.are_keys c.requires.rising b.key (worth_of b.number) b.between i found.0 found.1))
-
-pub returns-in-Err : goal.returns-in-Err
-returns-in-Err c =
-    let row = c.args.self.now in
-    let keys = row.keys.items in
-    let i = c.in-Err.i in
-    let b = c.in-Between.number in
-    let found = searched keys b.key (Err i) (rw c.deref-in-Between.ensures.value at c.in-Err.ensures.position) (keys_up keys c.requires.rising) in
-    rw c.in-Between.is (sym (between_not_found keys row.are_keys c.requires.rising b.key (worth_of b.number) b.between i found.0 found.1 found.2))
+    rw c.in-Double.is (sym (double_found keys row.are_keys c.requires.rising c.in-Double.key i c.in-Some.ensures.0 (c.in-Some.ensures.1 0)))

@@ -9,7 +9,7 @@ use Rattle.bd_wide_rank.specs.Rows.{between_worth, between_worths}
 use Rattle.bd_wide_rank.specs.inside.Rows.{between_cmp}
 use Rattle.bd_wide_rank.proofs.RankLemmas.{same_moved, same_trans}
 use Rattle.bd_wide_rank.proofs.RowLemmas.{are_alike, numbers_once}
-use Rattle.bd_wide_rank.proofs.others.Others.sort.Goals as goal
+use Rattle.bd_wide_rank.proofs.others.Others.drop_repeats.Goals as goal
 
 pub returns-clause-same : goal.returns-clause-same
 returns-clause-same c =
