@@ -28,6 +28,7 @@ PROGRAM = str(Path(sys.argv[1]).resolve()) if len(sys.argv) > 1 else str(BUILT.w
 DUMPS = int(sys.argv[2]) if len(sys.argv) > 2 else 40
 SEED = int(sys.argv[3]) if len(sys.argv) > 3 else 75
 REQUESTS = 20
+DAMAGES = 300
 
 TYPES = "bsonwide: query: the types of numbers are not told apart here\n"
 USAGE = usage_of("bsonwide")
@@ -142,20 +143,42 @@ class Finding:
             more, token = counts[2], ["--after", counts[3]] if counts[3] else []
         self.tests.want(f"{name}: pages of {size}", joined == wanted, (joined, wanted))
 
-    def damage(self, number: int, model: Dump) -> None:
-        """Of a damaged dump nothing is printed but its first fault, whatever the query matches."""
+    def damage(self, number: int, model: Dump) -> bool:
+        """Changes a byte of a dump, or some of it, and says whether it has a fault then."""
         data = bytearray(model.bytes)
         if not data:
-            return
-        data[self.rng.randrange(len(data))] ^= 1 << self.rng.randrange(8)
-        (self.room / "bad.bson").write_bytes(data)
+            return False
+        data[self.rng.randrange(len(data))] ^= self.rng.choice([1 << self.rng.randrange(8), self.rng.randrange(1, 256)])
+        return self.refuses(f"dump {number}, damaged", bytes(data[: self.rng.choice([len(data), len(data), self.rng.randrange(len(data))])]))
+
+    def refuses(self, name: str, dump: bytes) -> bool:
+        """Of a dump with a fault, which it says, nothing is printed but its first fault, whatever the query matches."""
+        (self.room / "bad.bson").write_bytes(dump)
         status, faults, _ = self.run("check", "bad.bson")
         if status == 0:
-            return
+            return False
         wanted = f"bsonwide: {faults[0]}"
         for query in ("{}", '{"_id":"no such id"}', '{"a":{"$gt":1.5}}'):
             ran = self.run("find", "bad.bson", "--query", query)
-            self.tests.want(f"dump {number}, damaged, {query}", ran == (1, [], wanted), (ran, wanted))
+            self.tests.want(f"{name}, {query}", ran == (1, [], wanted), (ran, wanted))
+        return True
+
+    def damages(self) -> None:
+        """Faults that bytes after the document would end: of a document that no query matches, last or before another one."""
+        good = b"\x10\0\0\0\x01a\0\0\0\0\0\0\0\0\x40\0"
+        for name, bad in {
+            "an ObjectId without its bytes": b"\x08\0\0\0\x07c\0\0",
+            "a text that is longer than its document": b"\x1b\0\0\0\x01b\0\0\0\0\0\0\0\xf8\x3f\x02c\0\x10\0\0\0pen\0\0",
+            "binary data that are longer": b"\x10\0\0\0\x05c\0\x10\0\0\0\0abc\0",
+            "a DBPointer without its id": b"\x0f\0\0\0\x0cc\0\x03\0\0\0db\0\0",
+            "a decimal128 that is cut short": b"\x10\0\0\0\x13c\0\0\0\0\0\0\0\0\0\0",
+        }.items():
+            for dump in (good + bad, good + bad + good, bad + good):
+                self.tests.want(f"{name}: a fault", self.refuses(name, dump), dump)
+        refused, number = 0, 0
+        while refused < DAMAGES:
+            refused += self.damage(number, Dump(self.inputs.documents()))
+            number += 1
 
     def in_files(self) -> None:
         """A query in a file or on standard input: its limit, its faults, and files that are not read."""
@@ -233,6 +256,7 @@ def main() -> int:
         finding = Finding(random.Random(SEED), room)
         finding.in_files()
         finding.too_long()
+        finding.damages()
         for number in range(DUMPS):
             finding.find_in_dump(number)
     print(f"refused {finding.refused} times for types of numbers")
