@@ -135,6 +135,27 @@ class Arguments(Room):
             for command in options():
                 self.assertRegex(text, rf"\b{command}\b", page)
 
+    def test_options_of_each_command(self) -> None:
+        """The synopsis and the completions have those that the command takes."""
+        wanted = {name: names for name, names in options().items() if names}
+        texts = {it: (ROOT / it).read_text(encoding="utf-8") for it in ("man/bsonkit.1", "completions/bsonkit.bash", "completions/_bsonkit", "completions/bsonkit.fish")}
+        synopsis = texts["man/bsonkit.1"].partition(".Sh DESCRIPTION")[0].split(".Nm\n")
+        short = [(it.split()[1], [*re.findall(r"(?: |Fl |^)-([a-z][\w-]+)", it, re.MULTILINE), *["ignore-case"] * (".Op Fl i\n" in it)]) for it in synopsis if it.startswith(".Cm ")]
+        bash = re.findall(r"^\t([a-z]+)\) options='([^']*)'", texts["completions/bsonkit.bash"], re.MULTILINE)
+        layout = re.search(r"^layout=\((.*?)^\)", texts["completions/_bsonkit"], re.MULTILINE | re.DOTALL)
+        zsh = re.findall(r"^([a-z]+)\)(.*?);;", texts["completions/_bsonkit"], re.MULTILINE | re.DOTALL)
+        for page, pairs in (
+            ("man/bsonkit.1", short),
+            ("completions/bsonkit.bash", [(name, re.findall(r"--([\w-]+)", it)) for name, it in bash]),
+            ("completions/_bsonkit", [(name, re.findall(r"--([\w-]+)\[", it.replace("$layout", layout[1] if layout else ""))) for name, it in zsh]),
+            ("completions/bsonkit.fish",
+             [(name, [it]) for names, it in re.findall(r"-n '__bsonkit_command ([\w ]+)' .*-l ([\w-]+)", texts["completions/bsonkit.fish"]) for name in names.split()]),
+        ):  # fmt: skip
+            found: Dict[str, Set[str]] = {}
+            for name, names in pairs:
+                found.setdefault(name, set()).update(f"--{it}" for it in names)
+            self.assertEqual({name: names for name, names in found.items() if names}, wanted, page)
+
     def test_names_with_control_characters(self) -> None:
         """They forge no line, and a terminal obeys none of them."""
         path = self.file(PEOPLE.read_bytes() + DAMAGED, "a\n\x1b[2Kb\tc.bson")

@@ -21,6 +21,7 @@ class Dumping:
         """The options are those of the program; fields that it refuses are refused before a dump is opened."""
         self._wide, self._options = wide_program(program), list(options)
         self._array = Array("--pretty" in options) if "--jsonArray" in options else None
+        self._is_begun = False
         if any(it.startswith("--fields") for it in options):
             with self._run(Dump(), subprocess.DEVNULL) as run:
                 finish_dump(run)
@@ -40,6 +41,8 @@ class Dumping:
                     except DumpError as error:
                         documents += error.fault.document if error.fault else 0
                         raise error.moved(part.first, part.offset) from None
+                if not self._is_begun:
+                    self._print(Dump(), console)  # What is before the documents comes where there is none.
             except DumpError as error:
                 if not error.is_finding:
                     raise
@@ -52,6 +55,7 @@ class Dumping:
     def _print(self, dump: Dump, console: Console) -> int:
         """Has a run print the documents of a dump, and gives their number."""
         sys.stdout.flush()
+        self._is_begun = True
         with self._run(dump, subprocess.PIPE if self._array else sys.stdout.fileno()) as run:
             if "--type=csv" in self._options and "--noHeaderLine" not in self._options:
                 self._options.append("--noHeaderLine")
