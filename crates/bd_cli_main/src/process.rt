@@ -1,5 +1,8 @@
 //! A process: a program over the system's files and standard streams.
 
+ghost use Rattle.std.specs.Prelude.{◌≡◌, ◌⊎◌, IfErr};
+ghost use Rattle.bd_cli_args.specs.declared.order.WordsFault.TheVariants.{NoMemory, Usage};
+
 use crate::program::Program;
 use crate::query::read_query;
 use crate::usage::print_text;
@@ -72,8 +75,10 @@ fn execute<P: Program>(rt: &HostRuntime, program: &P, output_buffer: &Waiting) -
     }
 }
 
-/// The process's arguments, without the name of the program.
-fn arguments(rt: &HostRuntime) -> Result<Vec<String>, WordsFault> {
+/// The process's arguments, without the name of the program. That they cannot be read is no request for help.
+fn arguments(rt: &HostRuntime) -> Result<Vec<String>, WordsFault>
+    ensures fault { IfErr result (λ f. (f ≡ NoMemory) ⊎ (f ≡ Usage)) }
+{
     let words = match env::args(rt) {
         Ok(words) => words,
         Err(error) if error.kind() == io::ErrorKind::OutOfMemory => {
@@ -116,10 +121,11 @@ fn run_command<P: Program>(
 fn query_in(rt: &HostRuntime, program: &str, name: &str) -> Result<Vec<u8>, Status> {
     let mut err = SystemOutput::new(rt.stderr());
     if is_standard_input(name) {
+        let mut reader = rt.reader();
         return read_query(
             rt.alloc(),
             program,
-            &mut SystemInput::new(rt.reader()),
+            &mut SystemInput::new(&mut reader),
             &mut err,
         );
     }
@@ -139,7 +145,9 @@ fn run_asking<P: Program>(
 ) -> Status {
     let file = program.file(command);
     if is_standard_input(file) {
-        return run_over(rt, program, command, query, rt.reader(), output_buffer);
+        // It has a buffer inside, so only a reference to it is passed on.
+        let mut reader = rt.reader();
+        return run_over(rt, program, command, query, &mut reader, output_buffer);
     }
     let Ok(opened) = fs::open(rt, file) else {
         return report_open_fault(program.name(), file, &mut SystemOutput::new(rt.stderr()));
@@ -164,6 +172,8 @@ fn oversize(file: &File, longest: Option<u64>) -> Option<u64> {
 }
 
 /// Runs a command over the input in its file.
+// Not inlined, as `run_reading` is not: else a run takes the stack for all kinds of files together, which the system need not give.
+#[inline(never)]
 fn run_over<P: Program, F: Read + Drop>(
     rt: &HostRuntime,
     program: &P,
@@ -191,6 +201,7 @@ fn run_over<P: Program, F: Read + Drop>(
 }
 
 /// Runs a command over its file. Its commands come from standard input.
+#[inline(never)]
 fn run_reading<P: Program, I: Input>(
     rt: &HostRuntime,
     program: &P,
@@ -199,9 +210,10 @@ fn run_reading<P: Program, I: Input>(
     file: &mut I,
     output_buffer: &Waiting,
 ) -> Status {
+    let mut reader = rt.reader();
     // They are read in blocks anyway.
     let mut commands = SystemInput::new(FlushingInput {
-        reader: SystemInput::new(rt.reader()),
+        reader: SystemInput::new(&mut reader),
         output_buffer,
     });
     let (mut out, mut err) = outputs(rt, output_buffer);
