@@ -2,3 +2,8 @@ pub mod FilledLemmas
 pub mod LineLemmas
 pub mod MixLemmas
 pub mod PlainLemmas
+pub mod JsonLemmas
+pub mod ChunkLemmas
+pub mod PrintedLemmas
+pub mod NumberTextLemmas
+pub mod RoundTripLemmas

@@ -1,4 +1,5 @@
 pub mod Filled
+pub mod RoundTrip
 pub mod WideLine
 pub mod Written
 pub mod inside

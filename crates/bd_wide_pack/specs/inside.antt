@@ -1,2 +1,3 @@
 pub mod Mixed
 pub mod Outcome
+pub mod Printed

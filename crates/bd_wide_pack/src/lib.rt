@@ -17,13 +17,14 @@
 //!
 //! - `line`: `WidePacker`, which packs a line at a time.
 //! - `step`: `mix`, which writes the document with the numbers: `specs/Filled.antt`.
-//! - `laws`: two documents and numbers have one such document at most.
+//! - `laws`: two documents and numbers have one such document at most, and what `dump` prints is packed as it was:
+//!   `specs/RoundTrip.antt`.
 #![tactic(auto)]
 
 mod laws;
 mod line;
 mod step;
 
-pub use laws::one_document;
+pub use laws::{dump_then_pack, one_document};
 pub use line::WidePacker;
 pub use step::mix;

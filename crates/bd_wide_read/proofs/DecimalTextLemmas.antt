@@ -1,5 +1,5 @@
 -- The text of a decimal128 is read as the decimal128.
-use Rattle.std.proofs.Common.{◌≡◌, ◌<◌, ◌≤◌, ◌⊎◌, ℕ, zero, suc, ◌+◌, ◌-◌, ◌*◌, ◌/◌, ◌%◌, ◌^◌, ◌==◌, Bool, true, false, cond, List, [], ◌∷◌, ◌++◌, length, take, drop, refl, sym, ap, ◌∙◌, subst, inl, inr, arith, leb, ne_eqb, eq-eqb, Result, Ok, Err, append-nil, length-append, length-take, length-drop, take-append-drop, true≢false, min}
+use Rattle.std.proofs.Common.{◌≡◌, ◌<◌, ◌≤◌, ◌⊎◌, ℕ, zero, suc, ◌+◌, ◌-◌, ◌*◌, ◌/◌, ◌%◌, ◌^◌, ◌==◌, Bool, true, false, cond, List, [], ◌∷◌, ◌++◌, length, take, drop, refl, sym, ap, ◌∙◌, subst, inl, inr, arith, leb, ne_eqb, eq-eqb, Result, Ok, Err, append-nil, length-append, length-take, length-drop, take-append-drop, true≢false, min, ltb, codes, ◌||◌}
 use Rattle.std.proofs.lemmas.Bool.{cases_lt}
 use Rattle.std.proofs.lemmas.List.{length-replicate}
 use Rattle.std.proofs.lemmas.Nat.{shr-shr}
@@ -9,15 +9,17 @@ use Rattle.std.proofs.lemmas.Float.Parse.{scan_numeral-text_of}
 use Rattle.std.proofs.Math.Nat.{eq_of_mul-eq-mul_right}
 use borrow.Author.Tests.{lt-ltb, le-ltb, lt-leb, le-leb}
 use Rattle.std.specs.Fmt.{decimal, sign_text}
+use Rattle.std.specs.List.{list_any}
+use Rattle.std.proofs.lemmas.List.Folds.{list_any-append}
 use Rattle.std.specs.Str.Parse.{AllDigits, digits_value, digits_value_after}
 use Rattle.std.specs.Float.Numeral.{Parts, scan_numeral, numeral_digits, tens_up, tens_down, IsWellFormed}
 use Rattle.fast_float.proofs.Rows.{AllDigits-take, AllDigits-drop, AllDigits-append}
 use Rattle.bd_wide_number.specs.Decimal128.{five_bits, coefficient_of, biased_exponent}
 use Rattle.bd_wide_text.specs.Layout.{mantissa, zeros}
-use Rattle.bd_wide_text.specs.Decimal128.{decimal128_size, decimal128_text, scientific_string}
+use Rattle.bd_wide_text.specs.Decimal128.{decimal128_size, decimal128_text, power_text, scientific_string}
 use Rattle.bd_wide_read.specs.declared.fault.TextFault.{TextFault}
 use Rattle.bd_wide_read.specs.declared.fault.TextFault.TheVariants.{BadText, OutOfRange}
-use Rattle.bd_wide_read.specs.DecimalText.{number, IsCanonical, IsRead, IsWorth, high_half, is_numeral, numeric_of, scaled_of, size_of}
+use Rattle.bd_wide_read.specs.DecimalText.{number, IsCanonical, IsExact, IsRead, IsWorth, high_half, is_numeral, numeric_of, scaled_of, size_of}
 use Rattle.bd_wide_read.specs.inside.Digits.{scaled}
 use Rattle.bd_wide_read.proofs.DoubleLemmas.{AllDigits-zeros}
 use Rattle.bd_wide_read.proofs.DecimalLemmas.{value_append}
@@ -199,19 +201,38 @@ finite_text low high five few =
     subst (λ (n : ℕ). IsText (scientific_string (decimal c) b) n b) numeral.1 (layout_text (decimal c) b numeral.0.1 numeral.0.0 (omega arith) (omega arith)) in
     rw (ne_eqb (five_bits high) 30 (λ e. omega arith), coefficient_is low high five few, exponent_is high five) is
 
-finite_read : (low high : ℕ) (r : Result (ℕ × ℕ) TextFault) → low < 2 ^ 64 → high < 2 ^ 64 → five_bits high < 24 → high % 2 ^ 49 * 2 ^ 64 + low < 10 ^ 34
-    → IsRead (numeric_of (decimal128_text low high)) r → r ≡ Ok (low, high)
+finite_means : (low high : ℕ) → five_bits high < 24 → high % 2 ^ 49 * 2 ^ 64 + low < 10 ^ 34
+    → numeric_of (decimal128_text low high) ≡ number (leb (2 ^ 63) high) (scaled (high % 2 ^ 49 * 2 ^ 64 + low) (high / 2 ^ 49 % 2 ^ 14) 0)
 unfolding decimal128_text
-finite_read low high r l h five few is =
-    let c = high % 2 ^ 49 * 2 ^ 64 + low in
-    let b = high / 2 ^ 49 % 2 ^ 14 in
+finite_means low high five few =
     let s = leb (2 ^ 63) high in
     let not_nan : (five_bits high == 31) ≡ false = ne_eqb (five_bits high) 31 (λ e. omega arith) in
     let text : decimal128_text low high ≡ sign_text s ++ decimal128_size low high = rw not_nan in
-    let means : numeric_of (decimal128_text low high) ≡ number s (scaled c b 0) = ap numeric_of text ∙ numeric_is s (decimal128_size low high) c b (finite_text low high five few) in
-    let bits = read_only s c b r few (exponent_below high five) (subst (λ n. IsRead n r) means is) in
+    ap numeric_of text ∙ numeric_is s (decimal128_size low high) (high % 2 ^ 49 * 2 ^ 64 + low) (high / 2 ^ 49 % 2 ^ 14) (finite_text low high five few)
+
+finite_read : (low high : ℕ) (r : Result (ℕ × ℕ) TextFault) → low < 2 ^ 64 → high < 2 ^ 64 → five_bits high < 24 → high % 2 ^ 49 * 2 ^ 64 + low < 10 ^ 34
+    → IsRead (numeric_of (decimal128_text low high)) r → r ≡ Ok (low, high)
+finite_read low high r l h five few is =
+    let c = high % 2 ^ 49 * 2 ^ 64 + low in
+    let bits =
+    read_only (leb (2 ^ 63) high) c (high / 2 ^ 49 % 2 ^ 14) r few (exponent_below high five) (subst (λ n. IsRead n r) (finite_means low high five few) is) in
     let lower : c % 2 ^ 64 ≡ low = omega arith in
     bits ∙ (λ i. Ok (lower i, high_is low high l h i))
+
+exact_here : (c b : ℕ) → c < 10 ^ 34 → b < 12288 → IsExact (scaled c b 0) c b
+exact_here c b few inside =
+    let one : b + 0 ≡ b = omega arith in
+    record {
+      worth = record { digits = few; exponent = inside; value = ap (λ (n : ℕ). c * 10 ^ n) one };
+      nearest = λ other at w. omega arith;
+    }
+
+finite_is_read : (low high : ℕ) → low < 2 ^ 64 → high < 2 ^ 64 → five_bits high < 24 → high % 2 ^ 49 * 2 ^ 64 + low < 10 ^ 34 → IsRead (numeric_of (decimal128_text low high)) (Ok (low, high))
+finite_is_read low high l h five few =
+    let c = high % 2 ^ 49 * 2 ^ 64 + low in
+    let b = high / 2 ^ 49 % 2 ^ 14 in
+    let lower : low ≡ c % 2 ^ 64 = omega arith in
+    subst (λ n. IsRead n (Ok (low, high))) (sym (finite_means low high five few)) (c, b, exact_here c b few (exponent_below high five), lower, sym (high_is low high l h))
 
 special_read : (low high : ℕ) (r : Result (ℕ × ℕ) TextFault) → low ≡ 0 → (high ≡ 0x7C00_0000_0000_0000) ⊎ ((high ≡ 0x7800_0000_0000_0000) ⊎ (high ≡ 0xF800_0000_0000_0000))
     → IsRead (numeric_of (decimal128_text low high)) r → r ≡ Ok (low, high)
@@ -229,3 +250,115 @@ special_read low high r none (inr (inr e)) is =
 pub decimal_read : (low high : ℕ) (r : Result (ℕ × ℕ) TextFault) → low < 2 ^ 64 → high < 2 ^ 64 → IsCanonical low high → IsRead (numeric_of (decimal128_text low high)) r → r ≡ Ok (low, high)
 decimal_read low high r l h (inl finite) is = finite_read low high r l h finite.0 finite.1 is
 decimal_read low high r l h (inr special) is = special_read low high r special.0 special.1 is
+
+special_is_read : (low high : ℕ) → low ≡ 0 → (high ≡ 0x7C00_0000_0000_0000) ⊎ ((high ≡ 0x7800_0000_0000_0000) ⊎ (high ≡ 0xF800_0000_0000_0000))
+    → IsRead (numeric_of (decimal128_text low high)) (Ok (low, high))
+unfolding decimal128_text decimal128_size scan_numeral
+special_is_read low high none (inl e) =
+    let P : ℕ → ℕ → Type 0 = λ n m. IsRead (numeric_of (decimal128_text n m)) (Ok (n, m)) in
+    let here : P 0 0x7C00_0000_0000_0000 = refl in
+    subst (λ (m : ℕ). P low m) (sym e) (subst (λ (n : ℕ). P n 0x7C00_0000_0000_0000) (sym none) here)
+special_is_read low high none (inr (inl e)) =
+    let P : ℕ → ℕ → Type 0 = λ n m. IsRead (numeric_of (decimal128_text n m)) (Ok (n, m)) in
+    let here : P 0 0x7800_0000_0000_0000 = refl in
+    subst (λ (m : ℕ). P low m) (sym e) (subst (λ (n : ℕ). P n 0x7800_0000_0000_0000) (sym none) here)
+special_is_read low high none (inr (inr e)) =
+    let P : ℕ → ℕ → Type 0 = λ n m. IsRead (numeric_of (decimal128_text n m)) (Ok (n, m)) in
+    let here : P 0 0xF800_0000_0000_0000 = refl in
+    subst (λ (m : ℕ). P low m) (sym e) (subst (λ (n : ℕ). P n 0xF800_0000_0000_0000) (sym none) here)
+
+pub decimal_is_read : (low high : ℕ) → low < 2 ^ 64 → high < 2 ^ 64 → IsCanonical low high → IsRead (numeric_of (decimal128_text low high)) (Ok (low, high))
+decimal_is_read low high l h (inl finite) = finite_is_read low high l h finite.0 finite.1
+decimal_is_read low high l h (inr special) = special_is_read low high special.0 special.1
+
+-- ---- its text has no quotes
+
+abbrev IsUnquoted : List ℕ → Type 0
+IsUnquoted text = list_any (λ c. c == 34) text ≡ false
+
+both_unquoted : (xs ys : List ℕ) → IsUnquoted xs → IsUnquoted ys → IsUnquoted (xs ++ ys)
+both_unquoted xs ys h k = list_any-append (λ c. c == 34) xs ys ∙ rw (h, k) refl
+
+digits_unquoted : (ds : List ℕ) → AllDigits 10 ds → IsUnquoted ds
+digits_unquoted [] all = refl
+digits_unquoted (d ∷ ds) all = let r = digit_from_value d all.0 in rw (ne_eqb d 34 (λ e. omega arith)) (digits_unquoted ds all.1)
+
+decimal_unquoted : (n : ℕ) → n < 10 ^ 64 → IsUnquoted (decimal n)
+decimal_unquoted n small = digits_unquoted (decimal n) (decimal_is_IsNumeral_wide n small).0.1
+
+mantissa_unquoted : (ds : List ℕ) → AllDigits 10 ds → IsUnquoted (mantissa ds)
+mantissa_unquoted ds all =
+    both_unquoted (take 1 ds) _ (digits_unquoted (take 1 ds) (AllDigits-take 1 ds all))
+    (elim (ltb 1 (length ds)) as (λ b. IsUnquoted (cond b (46 ∷ drop 1 ds) [])) [
+      | true ↦ digits_unquoted (drop 1 ds) (AllDigits-drop 1 ds all)
+      | false ↦ refl
+    ])
+
+power_unquoted : (sum : ℕ) → sum < 2 ^ 60 → IsUnquoted (power_text sum)
+power_unquoted sum small =
+    elim (ltb sum 6177) as (λ b. IsUnquoted (cond b (69 ∷ 45 ∷ decimal (6177 - sum)) (69 ∷ 43 ∷ decimal (sum - 6177)))) [
+      | true ↦ decimal_unquoted (6177 - sum) (omega arith)
+      | false ↦ decimal_unquoted (sum - 6177) (omega arith)
+    ]
+
+string_unquoted : (ds : List ℕ) (b : ℕ) → AllDigits 10 ds → b + length ds < 2 ^ 60 → IsUnquoted (scientific_string ds b)
+unfolding scientific_string
+string_unquoted ds b all small =
+    let places = 6176 - b in
+    elim (ltb 6176 b || ltb (b + length ds) 6171) as (λ x. IsUnquoted (cond x (mantissa ds ++ power_text (b + length ds))
+    (cond (b == 6176) ds (cond (ltb places (length ds)) (take (length ds - places) ds ++ (46 ∷ drop (length ds - places) ds)) (48 ∷ 46 ∷ (zeros (places - length ds) ++ ds)))))) [
+      | true ↦ both_unquoted (mantissa ds) (power_text (b + length ds)) (mantissa_unquoted ds all) (power_unquoted (b + length ds) small)
+      | false ↦ elim (b == 6176) as (λ x. IsUnquoted (cond x ds (cond (ltb places (length ds)) (take (length ds - places) ds ++ (46 ∷ drop (length ds - places) ds)) (48 ∷ 46 ∷ (zeros (places - length ds) ++ ds))))) [
+        | true ↦ digits_unquoted ds all
+        | false ↦ elim (ltb places (length ds)) as (λ x. IsUnquoted (cond x (take (length ds - places) ds ++ (46 ∷ drop (length ds - places) ds)) (48 ∷ 46 ∷ (zeros (places - length ds) ++ ds)))) [
+          | true ↦ both_unquoted (take (length ds - places) ds) (46 ∷ drop (length ds - places) ds) (digits_unquoted _ (AllDigits-take (length ds - places) ds all)) (digits_unquoted (drop (length ds - places) ds) (AllDigits-drop (length ds - places) ds all))
+          | false ↦ both_unquoted (zeros (places - length ds)) ds (digits_unquoted _ (AllDigits-zeros (places - length ds))) (digits_unquoted ds all)
+        ]
+      ]
+    ]
+
+pub coefficient_below : (low high : ℕ) → coefficient_of low high < 10 ^ 34
+coefficient_below low high =
+    let c = high % 2 ^ 49 * 2 ^ 64 + low in
+    elim (cases_lt c (10 ^ 34)) [
+      | inl less ↦ elim (leb 24 (five_bits high) || leb (10 ^ 34) c) as (λ x. cond x 0 c < 10 ^ 34) [
+        | true ↦ omega arith
+        | false ↦ less
+      ]
+      | inr more ↦ elim (leb 24 (five_bits high)) as (λ x. cond (x || leb (10 ^ 34) c) 0 c < 10 ^ 34) [
+        | true ↦ omega arith
+        | false ↦ rw (le-leb (10 ^ 34) c more) (omega arith)
+      ]
+    ]
+
+exponent_small : (high : ℕ) → biased_exponent high < 2 ^ 20
+exponent_small high =
+    elim (leb 24 (five_bits high)) as (λ x. cond x (high / 2 ^ 47) (high / 2 ^ 49) % 2 ^ 14 < 2 ^ 20) [
+      | true ↦ omega arith
+      | false ↦ omega arith
+    ]
+
+size_unquoted : (low high : ℕ) → IsUnquoted (decimal128_size low high)
+unfolding decimal128_size
+size_unquoted low high =
+    let c = coefficient_of low high in
+    let few : c < 10 ^ 34 = coefficient_below low high in
+    let wide : c < 10 ^ 64 = omega arith in
+    let short : length (decimal c) ≤ 34 = length-decimal-le_wide 34 c (omega arith) few wide in
+    elim (five_bits high == 30) as (λ x. IsUnquoted (cond x (codes "Infinity") (scientific_string (decimal c) (biased_exponent high)))) [
+      | true ↦ refl
+      | false ↦ string_unquoted (decimal c) (biased_exponent high) (decimal_is_IsNumeral_wide c wide).0.1 (omega (arith, exponent_small high))
+    ]
+
+sign_unquoted : (s : Bool) → IsUnquoted (sign_text s)
+sign_unquoted true = refl
+sign_unquoted false = refl
+
+-- the text of a decimal128 has no quotes
+pub decimal_text_unquoted : (low high : ℕ) → list_any (λ c. c == 34) (decimal128_text low high) ≡ false
+unfolding decimal128_text
+decimal_text_unquoted low high =
+    elim (five_bits high == 31) as (λ x. IsUnquoted (cond x (codes "NaN") (sign_text (leb (2 ^ 63) high) ++ decimal128_size low high))) [
+      | true ↦ refl
+      | false ↦ both_unquoted (sign_text (leb (2 ^ 63) high)) (decimal128_size low high) (sign_unquoted (leb (2 ^ 63) high)) (size_unquoted low high)
+    ]

@@ -19,7 +19,9 @@ pub fn double_text_is_read()
 
 /// The text of each decimal128 in its one form is read as it, and as nothing else.
 pub fn decimal128_text_is_read()
-    ensures { (low high : ℕ) (r : Result (ℕ × ℕ) TextFault) → low < 2 ^ 64 → high < 2 ^ 64
+    ensures read { (low high : ℕ) → low < 2 ^ 64 → high < 2 ^ 64 → IsCanonical low high
+        → IsRead (numeric_of (decimal128_text low high)) (Ok (low, high)) }
+    ensures once { (low high : ℕ) (r : Result (ℕ × ℕ) TextFault) → low < 2 ^ 64 → high < 2 ^ 64
         → IsCanonical low high → IsRead (numeric_of (decimal128_text low high)) r
         → r ≡ Ok (low, high) }
 {}
