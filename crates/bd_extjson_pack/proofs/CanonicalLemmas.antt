@@ -32,7 +32,7 @@ use Rattle.bd_extjson_text.proofs.JsonStringLemmas.{escaped-plain, escaped-digit
 use Rattle.bd_extjson.proofs.ReadBackLemmas.{document_back}
 use Rattle.bd_extjson_pack.specs.Packable.{plain, IsPackable}
 use Rattle.bd_extjson_pack.specs.declared.canonical_line.TheConstants.{MEANT}
-use Rattle.bd_extjson_pack.specs.inside.Packable.{IsCanonical, AreCanonical, AreCanonicalFields}
+use Rattle.bd_extjson_pack.specs.Canonical.{IsCanonical, AreCanonical, AreCanonicalFields}
 use Rattle.hex.specs.{Hex.encode_lower, Hex.decode_sized, declared.FromHexError.FromHexError}
 use Rattle.hex.proofs.HexLemmas.{decode_of-ok, decode_sized-ok, decode_sized-twice}
 use Rattle.bd_extjson_wrapper.proofs.WholeNumberLemmas.{digits_model}
@@ -48,12 +48,12 @@ no_zero (b ∷ s) e =
 
 -- a string is read: the first quotation mark, bytes without escapes, the last quotation mark
 pub string_read : (whole after inside last rest : List ℕ) (n : ℕ) → whole ≡ 34 ∷ after → inside ≡ take n after → last ≡ drop n after → last ≡ 34 ∷ rest → list_any needs_escape (take n after) ≡ false
-    → (whole ≡ quoted inside ++ rest) × (has_zero inside ≡ false) × (escaped inside ≡ inside)
+    → (whole ≡ quoted inside ++ rest) × (has_zero inside ≡ false) × (escaped inside ≡ inside) × (list_any needs_escape inside ≡ false)
 unfolding quoted
 string_read whole after inside last rest n begins is remaining ends none =
     let plain : list_any needs_escape inside ≡ false = rw is none in
     let all : after ≡ inside ++ (34 ∷ rest) = sym (take-append-drop n after) ∙ rw (← is, ← remaining, ends) refl in
-    (rw (begins, all, escaped-plain inside plain, append_assoc inside (34 ∷ []) rest) refl, no_zero inside plain, escaped-plain inside plain)
+    (rw (begins, all, escaped-plain inside plain, append_assoc inside (34 ∷ []) rest) refl, no_zero inside plain, escaped-plain inside plain, plain)
 
 -- the name of a field with its quotation marks, and the text that begins with it
 pub name_read : (whole name rest value label : List ℕ) → whole ≡ quoted name ++ rest → escaped name ≡ name → rest ≡ 58 ∷ value → label ≡ take (length name + 2) whole

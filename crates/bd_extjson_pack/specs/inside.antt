@@ -1,2 +1,1 @@
-pub mod Packable
 pub mod Writes

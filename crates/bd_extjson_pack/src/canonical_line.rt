@@ -9,7 +9,7 @@ ghost use Rattle.bd_bson_write.specs.TreeBytes.{bytes_of};
 ghost use Rattle.bd_extjson_wrapper.specs.Wrapper.{wrapper_of};
 ghost use Rattle.bd_extjson_text.specs.Text.{text as text_of, items_text, fields_text, needs_escape, escape_byte, escaped, quoted, hex_text};
 ghost use Rattle.bd_extjson_pack.specs.Packable.{plain, IsPackable};
-ghost use Rattle.bd_extjson_pack.specs.inside.Packable.{IsCanonical, AreCanonical, AreCanonicalFields};
+ghost use Rattle.bd_extjson_pack.specs.Canonical.{IsCanonical, AreCanonical, AreCanonicalFields};
 ghost use Rattle.bd_extjson_pack.specs.inside.Writes.{NotRead};
 ghost use Rattle.std.specs.{Fmt.signed_decimal, Result.result_ok, List.list_any};
 ghost use Rattle.base64.specs.{Engines.standard, GeneralPurpose.encode_of, GeneralPurpose.decode_of};
@@ -119,7 +119,7 @@ fn append_next<'a>(
 
 /// The text; None if it begins with the closing bracket.
 #[inline(always)]
-fn unless_ended<'a>(text: &'a str, bracket: u8) -> Option<&'a str>
+pub fn unless_ended<'a>(text: &'a str, bracket: u8) -> Option<&'a str>
     ensures { IfSome result (λ same. same.now ≡ text.now) }
 {
     match text.as_bytes() {
@@ -130,7 +130,7 @@ fn unless_ended<'a>(text: &'a str, bracket: u8) -> Option<&'a str>
 
 /// The name of a field in its quotation marks, which is no wrapper's, and what follows the colon.
 #[inline(always)]
-fn field_name<'a>(text: &'a str) -> Option<(&'a str, &'a str)>
+pub fn field_name<'a>(text: &'a str) -> Option<(&'a str, &'a str)>
     ensures { IfSome result (λ p. (name : List ℕ) × IsUtf8 name
         × (p.0.now ≡ 34 ∷ (name ++ 34 ∷ [])) × (text.now ≡ quoted name ++ (58 ∷ p.1.now))
         × (has_zero name ≡ false) × (wrapper_of name ≡ None)) }
@@ -146,7 +146,7 @@ fn field_name<'a>(text: &'a str) -> Option<(&'a str, &'a str)>
 
 /// Appends the value of the wrapper that the text begins with, and returns its kind and what follows.
 #[inline(always)]
-fn append_wrapper<'a>(text: &'a str, out: &mut Vec<u8>) -> Result<(Kind, &'a str), Refusal>
+pub fn append_wrapper<'a>(text: &'a str, out: &mut Vec<u8>) -> Result<(Kind, &'a str), Refusal>
     ensures { IfOk result (λ p. (t : Tree) × (text.now ≡ text_of t ++ p.1.now)
         × IsCanonical 0 t × (p.0 ≡ kind_of t) × (out.new.items ≡ out.old.items ++ bytes_of t)) }
 {
@@ -190,7 +190,7 @@ fn append_binary<'a>(text: &'a str, out: &mut Vec<u8>) -> Result<(Kind, &'a str)
 
 /// Appends the value of the literal that the text begins with, and returns its kind and what follows.
 #[inline(always)]
-fn append_word<'a>(text: &'a str, out: &mut Vec<u8>) -> Result<(Kind, &'a str), Refusal>
+pub fn append_word<'a>(text: &'a str, out: &mut Vec<u8>) -> Result<(Kind, &'a str), Refusal>
     ensures { IfOk result (λ p. (t : Tree) × (text.now ≡ text_of t ++ p.1.now)
         × IsCanonical 0 t × (p.0 ≡ kind_of t) × (out.new.items ≡ out.old.items ++ bytes_of t)) }
 {
@@ -206,7 +206,7 @@ fn append_word<'a>(text: &'a str, out: &mut Vec<u8>) -> Result<(Kind, &'a str), 
 
 /// Appends the string that the text begins with, and returns what follows.
 #[inline(always)]
-fn append_string<'a>(text: &'a str, out: &mut Vec<u8>) -> Result<&'a str, Refusal>
+pub fn append_string<'a>(text: &'a str, out: &mut Vec<u8>) -> Result<&'a str, Refusal>
     ensures { IfOk result (λ rest. (s : List ℕ) × IsUtf8 s × (text.now ≡ quoted s ++ rest.now)
         × (out.new.items ≡ out.old.items ++ bson_string s)) }
 {
@@ -294,11 +294,12 @@ fn escape<'a>(text: &'a str) -> Option<(u8, &'a str)>
     Some((MEANT[letter], rest))
 }
 
-/// A string, and what follows it.
+/// A string without escapes, and what follows it.
 #[inline(always)]
-fn string<'a>(text: &'a str) -> Option<(&'a str, &'a str)>
+pub fn string<'a>(text: &'a str) -> Option<(&'a str, &'a str)>
     ensures { IfSome result (λ p. (text.now ≡ quoted p.0.now ++ p.1.now)
-        × (has_zero p.0.now ≡ false) × (escaped p.0.now ≡ p.0.now)) }
+        × (has_zero p.0.now ≡ false) × (escaped p.0.now ≡ p.0.now)
+        × (list_any needs_escape p.0.now ≡ false)) }
 {
     let inside = after_word(text, b"\"")?;
     let (inside, rest) = inside.split_at_checked(plain_length(inside.as_bytes()))?;
@@ -446,7 +447,7 @@ fn is_hex_text(bytes: &[u8], text: &str) -> bool
 
 /// What follows the literal that a text begins with.
 #[inline(always)]
-fn after_word<'a, const N: usize>(text: &'a str, word: &[u8; N]) -> Option<&'a str>
+pub fn after_word<'a, const N: usize>(text: &'a str, word: &[u8; N]) -> Option<&'a str>
     ensures { IfSome result (λ rest. text.now ≡ word.now ++ rest.now) }
 {
     let (prefix, _) = text.as_bytes().split_first_chunk::<N>()?;

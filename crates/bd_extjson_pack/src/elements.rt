@@ -12,7 +12,7 @@ use bd_value::{Kind, LONGEST_DOCUMENT, Scalar};
 /// Begins an element by its name between two bytes: `end_element` replaces the first by its type, and a zero replaces the last.
 /// So a name in quotation marks is copied at once. Returns the offset of the first.
 #[inline(always)]
-pub(crate) fn begin_element(label: &[u8], out: &mut Vec<u8>) -> Result<usize, WriteFault>
+pub fn begin_element(label: &[u8], out: &mut Vec<u8>) -> Result<usize, WriteFault>
     requires { 0 < length label.now }
     ensures { IfOk result (λ at. (at ≡ length out.old.items)
         × ((name : List ℕ) (first : ℕ) (last : ℕ) → label.now ≡ first ∷ (name ++ last ∷ []) →
@@ -32,7 +32,7 @@ const DIGITS: usize = 20;
 
 /// The same for an element of an array, whose name is its index.
 #[inline(always)]
-pub(crate) fn begin_item(index: u32, out: &mut Vec<u8>) -> Result<usize, WriteFault>
+pub fn begin_item(index: u32, out: &mut Vec<u8>) -> Result<usize, WriteFault>
     ensures { IfOk result (λ at. (at ≡ length out.old.items) × ((first : ℕ)
         × (out.new.items ≡ out.old.items ++ (first ∷ (decimal index ++ 0 ∷ []))))) }
 {

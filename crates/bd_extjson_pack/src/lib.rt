@@ -18,8 +18,8 @@
 //! - `laws`: the packed bytes spell the line's document.
 #![tactic(auto)]
 
-mod canonical_line;
-mod elements;
+pub mod canonical_line;
+pub mod elements;
 mod laws;
 mod line;
 mod refusal;
@@ -27,3 +27,4 @@ mod tokens;
 
 pub use laws::{packs_documents, reads_within_limits};
 pub use line::{LineFault, Packer};
+pub use refusal::Refusal;

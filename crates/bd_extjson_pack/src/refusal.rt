@@ -8,7 +8,7 @@ use std::alloc::AllocError;
 
 /// Why no bytes were written for a text.
 #[derive(Clone, Copy, Drop)]
-pub(crate) enum Refusal {
+pub enum Refusal {
     /// It is not read: it is not canonical text, or means no document.
     Unread,
     /// There are too many bytes, or memory ran out.

@@ -7,3 +7,4 @@ pub mod ChunkLemmas
 pub mod PrintedLemmas
 pub mod NumberTextLemmas
 pub mod RoundTripLemmas
+pub mod CanonicalLineLemmas

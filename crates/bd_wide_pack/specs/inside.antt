@@ -1,3 +1,4 @@
+pub mod CanonicalLine
 pub mod Mixed
 pub mod Outcome
 pub mod Printed

@@ -1,8 +1,8 @@
 //! Lines of Extended JSON with numbers of all types, as BSON. Which document a line is, and which bytes: `specs/WideLine.antt`.
 //!
-//! A line is read twice, by the reader of nineteen types: with a whole number for each double and decimal128, and with an empty
-//! text. Where the two documents differ is the next number, and the document with the numbers is written from both. A line
-//! without such numbers is packed at once.
+//! A line that is canonical text is packed straight from it. Any other is read twice, by the reader of nineteen types: with a whole
+//! number for each double and decimal128, and with an empty text. Where the two documents differ is the next number, and the document
+//! with the numbers is written from both. A line without such numbers is packed at once.
 //!
 //! An example, which `bd_wide_pack_tests` proves and runs as `examples::packed`:
 //!
@@ -16,11 +16,13 @@
 //! ```
 //!
 //! - `line`: `WidePacker`, which packs a line at a time.
+//! - `canonical_line`: the bytes straight from a line as `dump` writes it.
 //! - `step`: `mix`, which writes the document with the numbers: `specs/Filled.antt`.
 //! - `laws`: two documents and numbers have one such document at most, and what `dump` prints is packed as it was:
 //!   `specs/RoundTrip.antt`.
 #![tactic(auto)]
 
+mod canonical_line;
 mod laws;
 mod line;
 mod step;

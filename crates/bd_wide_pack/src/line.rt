@@ -1,19 +1,21 @@
 //! A line of Extended JSON with doubles and decimal128, and dates and UUIDs as texts, as the bytes of the document that it is.
 
-ghost use Rattle.std.specs.Prelude.{◌≡◌, ◌≤◌, ◌++◌, List, ℕ, IfOk, IfSome, OnErr, Ok, None, length};
+ghost use Rattle.std.specs.Prelude.{◌≡◌, ◌≤◌, ◌++◌, List, ℕ, IfOk, IfSome, OnErr, OnOk, Ok, None, length};
 ghost use Rattle.bd_value.specs.{Limits.longest_document, Tree.Doc};
 ghost use Rattle.bd_bson_view.specs.Spelling.{IsDocument};
 ghost use Rattle.bd_wide_pack.specs.WideLine.{IsBad, IsMixed, IsPacked};
 ghost use Rattle.bd_wide_pack.specs.inside.Outcome.{HasTexts, IsNotMixed, IsOutcome, IsReportedAs, first_of};
 ghost use Rattle.bd_wide_substitute.specs.Both.{HasNoValues};
 
+use crate::canonical_line::append_canonical;
 use crate::step::mix;
-use bd_extjson_fault::{JsonFault, JsonFaultKind};
-use bd_extjson_pack::{LineFault, Packer, packs_documents};
+use bd_bson_write::WriteFault;
+use bd_extjson_fault::{JsonFault, JsonFaultKind, text_of};
+use bd_extjson_pack::{LineFault, Packer, Refusal, packs_documents};
 use bd_value::{LONGEST_DOCUMENT, NoMemory};
 use bd_wide_number::Number;
 use bd_wide_substitute::{Substituted, earlier, fault_of_line, substitute};
-use std::alloc::Global;
+use std::alloc::{AllocError, Global};
 
 /// Packs lines with numbers of all types. It reuses its buffers from line to line, and has no other state.
 #[derive(Drop)]
@@ -51,6 +53,25 @@ impl WidePacker {
         line: &[u8],
         out: &mut Vec<u8>,
     ) -> Result<Option<LineFault>, NoMemory>
+        ensures packed { result ≡ Ok None → (bytes : List ℕ) × IsPacked line.now bytes
+            × (out.new.items ≡ out.old.items ++ bytes) }
+        ensures bad { IfOk result (λ o. IfSome o (λ f. IsBad line.now f
+            × (out.new.items ≡ out.old.items))) }
+        ensures err { OnErr result (out.new.items ≡ out.old.items) }
+    {
+        self.mixed.clear();
+        match pack_canonical(line, &mut self.mixed) {
+            Ok(()) => {
+                out.extend_from_slice(&self.mixed)?;
+                Ok(None)
+            }
+            Err(Refusal::Unwritten(WriteFault::NoMemory)) => Err(AllocError),
+            Err(_) => self.pack_other(line, out),
+        }
+    }
+
+    /// The same for a line that is not written as `dump` writes it, or has too many bytes.
+    fn pack_other(&mut self, line: &[u8], out: &mut Vec<u8>) -> Result<Option<LineFault>, NoMemory>
         ensures packed { result ≡ Ok None → (bytes : List ℕ) × IsPacked line.now bytes
             × (out.new.items ≡ out.old.items ++ bytes) }
         ensures bad { IfOk result (λ o. IfSome o (λ f. IsBad line.now f
@@ -101,6 +122,17 @@ impl WidePacker {
                 out,
             ),
         }
+    }
+}
+
+/// Packs a line that is written as `dump` writes it into bytes that are none before.
+fn pack_canonical(line: &[u8], bytes: &mut Vec<u8>) -> Result<(), Refusal>
+    requires { length bytes.old.items ≡ 0 }
+    ensures { OnOk result (IsPacked line.now bytes.new.items) }
+{
+    match text_of(line) {
+        Ok(text) => append_canonical(text, bytes),
+        Err(_) => Err(Refusal::Unread),
     }
 }
 

@@ -1,4 +1,4 @@
--- Which lines are packed, and as what.
+-- Which values are read back from their canonical text.
 use Rattle.std.specs.Prelude.{◌≡◌, ◌≤◌, ℕ, List, [], ◌∷◌, false, None, IsUtf8}
 use Rattle.bd_value.specs.{Tree.depth, Fits.Fits, Tree.Tree, Tree.Doc}
 use Rattle.bd_value.specs.{Fits.has_zero, Fits.zero_in}
