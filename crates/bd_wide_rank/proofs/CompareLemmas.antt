@@ -1,5 +1,5 @@
 -- Shapes of numbers, and the order of their values.
-use Rattle.std.proofs.Common.{◌≡◌, ◌≢◌, ℕ, suc, ◌+◌, ◌-◌, ◌*◌, ◌/◌, ◌%◌, ◌^◌, ◌<◌, ◌≤◌, Bool, ℤ, pos, refl, sym, ap, ◌∙◌, subst, arith, pow-add, mul-one, Ordering, Less, Equal, Greater, nat_cmp, Some, None, true, false}
+use Rattle.std.proofs.Common.{◌≡◌, ◌≢◌, ℕ, suc, ◌+◌, ◌-◌, ◌*◌, ◌/◌, ◌%◌, ◌^◌, ◌<◌, ◌≤◌, Bool, ℤ, refl, sym, ap, ◌∙◌, subst, arith, pow-add, mul-one, Ordering, Less, Equal, Greater, nat_cmp, Some, true, false}
 use Rattle.std.specs.Ordering.{int_cmp, ordering_then}
 use Rattle.std.proofs.lemmas.Nat.{mul-pow}
 use Rattle.std.proofs.lemmas.Int.{ints, by_lt_z}
@@ -8,8 +8,6 @@ use Rattle.bd_wide_number.specs.Value.{Value, nan, infinite, finite, one, least_
 use Rattle.bd_wide_number.specs.Code.{double_code}
 use Rattle.bd_wide_number.proofs.OddLemmas.{products}
 use Rattle.bd_wide_number.proofs.CodeLemmas.{finite_is}
-use Rattle.std.proofs.lemmas.Bool.{cases_lt}
-use Rattle.std.proofs.Common.{⊎_elim, neg_ℤ}
 use Rattle.bd_wide_number.proofs.ValueLemmas.{by_parts, small_magnitude}
 use Rattle.bd_wide_number.proofs.LawLemmas.{codes_rise_less, codes_rise_equal}
 use Rattle.bd_wide_rank.specs.inside.Compare.{signed_size, value_cmp}
