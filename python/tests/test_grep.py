@@ -103,7 +103,12 @@ class Grep(Room):
         packed = self.file(gzip.compress(data), "d/b.bson.gz")
         found = self.grep("ada@example.org", self.room / "d", note="20 documents in 2 of 2 files")
         self.assertEqual(found, self.rows(plain) + self.rows(packed))
-        self.assertEqual(self.grep("ada@example.org", "-", stdin=data), self.rows("-"))
+        # A document may begin as a file of gzip does.
+        alike = document(field(0x05, "b", int32(0x088B1F - 13) + bytes(0x088B1F - 12)))
+        self.assertEqual(alike[:4], gzip.compress(data)[:4])
+        for sent in (data, gzip.compress(data), alike + data):
+            self.assertEqual(self.grep("ada@example.org", "-", stdin=sent), self.rows("-"))
+        self.grep("ada@example.org", "-", stdin=gzip.compress(b""), note="0 documents in 0 of 1 files")
         self.assertEqual(self.grep("Ada@example.org", plain, note="0 documents in 0 of 1 files"), [])
 
     def test_case_and_ids(self) -> None:
