@@ -20,20 +20,20 @@ _bsonwide_inputs() {
 	fi
 }
 
-# Those of these options that the line has not, and a file where it has none; of the values of options only formats and
-# files.
+# Those of these options that the line has not, and a file where it has none; of the values of options only types,
+# formats and files.
 _bsonwide_options() {
 	local word=$1 options=$2 option='' is_file_there='' at=2
 	while ((at < COMP_CWORD)); do
 		case ${COMP_WORDS[at]} in
-		--query | --queryFile | --sort | --skip | --limit | --batch | --index | --after | --jsonFormat | --fields)
+		--query | --queryFile | --sort | --skip | --limit | --batch | --index | --after | --type | --jsonFormat | --fields)
 			option=${COMP_WORDS[at]}
 			options=${options/ $option / }
 			case $option in
 			--batch) options=${options/ --count / } ;;
 			--query) options=${options/ --queryFile / } ;;
 			--queryFile) options=${options/ --query / } ;;
-			--jsonFormat | --fields)
+			--type | --jsonFormat | --fields)
 				options=${options/ --bson / }
 				options=${options/ --count / }
 				;;
@@ -44,13 +44,13 @@ _bsonwide_options() {
 			fi
 			;;
 		--byValue) options=${options/ --byValue / } ;;
-		--jsonArray | --noId)
+		--jsonArray | --pretty | --noId | --noHeaderLine)
 			options=${options/ ${COMP_WORDS[at]} / }
 			options=${options/ --bson / }
 			options=${options/ --count / }
 			;;
 		--bson | --count)
-			for option in bson count jsonFormat jsonArray fields noId; do
+			for option in bson count type jsonFormat jsonArray pretty fields noId noHeaderLine; do
 				options=${options/ --$option / }
 			done
 			if [[ ${COMP_WORDS[at]} == --count ]]; then
@@ -64,6 +64,7 @@ _bsonwide_options() {
 	done
 	if ((at > COMP_CWORD)); then
 		case $option in
+		--type) mapfile -t COMPREPLY < <(compgen -W "json csv" -- "${word#=}") ;;
 		--jsonFormat) mapfile -t COMPREPLY < <(compgen -W "canonical relaxed" -- "${word#=}") ;;
 		--queryFile) _bsonwide_inputs '' "${word#=}" ;;
 		esac
@@ -91,9 +92,9 @@ _bsonwide() {
 		return
 	fi
 	case $command in
-	dump) options=' --jsonFormat --jsonArray --fields --noId ' ;;
+	dump) options=' --type --jsonFormat --jsonArray --pretty --fields --noId --noHeaderLine ' ;;
 	serve) options=' --byValue ' ;;
-	find) options=' --query --queryFile --sort --skip --limit --batch --index --after --jsonFormat --jsonArray --fields --noId --bson --count ' ;;
+	find) options=' --query --queryFile --sort --skip --limit --batch --index --after --type --jsonFormat --jsonArray --pretty --fields --noId --noHeaderLine --bson --count ' ;;
 	esac
 	if [[ -n $options ]]; then
 		_bsonwide_options "$word" "$options"

@@ -14,7 +14,7 @@ function __bsonwide_needs_file
     for word in $words[3..]
         if test $is_value = 1
             set is_value 0
-        else if contains -- $word --query --queryFile --sort --skip --limit --batch --index --after --jsonFormat --fields
+        else if contains -- $word --query --queryFile --sort --skip --limit --batch --index --after --type --jsonFormat --fields
             set is_value 1
         else if not string match -q -- '--*' $word
             return 1
@@ -37,7 +37,7 @@ end
 
 # Whether no option of a layout is there.
 function __bsonwide_no_layout
-    not string match -q -r -- '^--(jsonFormat|jsonArray|fields|noId)(=|$)' (commandline -opc)
+    not string match -q -r -- '^--(type|jsonFormat|jsonArray|pretty|fields|noId|noHeaderLine)(=|$)' (commandline -opc)
 end
 
 complete -c bsonwide -f
@@ -50,10 +50,14 @@ complete -c bsonwide -n 'not __bsonwide_command dump check pack find serve' -s h
 complete -c bsonwide -n '__bsonwide_needs_file dump check pack find' -a - -d 'standard input'
 complete -c bsonwide -n '__bsonwide_needs_file dump check find serve' -k -a '(__fish_complete_suffix .bson)'
 complete -c bsonwide -n '__bsonwide_needs_file pack' -F
+complete -c bsonwide -n '__bsonwide_lays_out type' -l type -x -a 'json csv' -d 'print JSON or CSV'
 complete -c bsonwide -n '__bsonwide_lays_out jsonFormat' -l jsonFormat -x -a 'canonical relaxed' -d 'how numbers and dates are printed'
 complete -c bsonwide -n '__bsonwide_lays_out jsonArray' -l jsonArray -d 'print one array'
+complete -c bsonwide -n '__bsonwide_lays_out pretty' -l pretty -d 'print many lines for each document'
 complete -c bsonwide -n '__bsonwide_lays_out fields' -l fields -x -d 'print these fields alone, as name,address.city'
 complete -c bsonwide -n '__bsonwide_lays_out noId' -l noId -d 'leave out _id'
+complete -c bsonwide -n '__bsonwide_lays_out noHeaderLine' -l noHeaderLine -d 'leave out the header of CSV'
+complete -c bsonwide -n 'test (commandline -opc)[-1] = --type' -a 'json csv'
 complete -c bsonwide -n 'test (commandline -opc)[-1] = --jsonFormat' -a 'canonical relaxed'
 complete -c bsonwide -n '__bsonwide_needs serve byValue' -l byValue -d 'read doubles and decimal128 over any dump'
 complete -c bsonwide -n '__bsonwide_needs find query; and __bsonwide_needs find queryFile' -l query -x -d 'the query, as {"age":{"$gte":18}}'

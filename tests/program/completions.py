@@ -23,7 +23,8 @@ COMPLETIONS = ROOT / "completions"
 COMMANDS = {"dump", "check", "pack", "find", "serve"}
 OF_WIDE = {"dump", "check", "pack", "find", "serve"}
 OPTIONS = {"--query", "--sort", "--skip", "--limit", "--batch", "--index", "--after"}
-LAYOUT, FORMATS = {"--jsonFormat", "--jsonArray", "--fields", "--noId"}, {"canonical", "relaxed"}
+LAYOUT = {"--type", "--jsonFormat", "--jsonArray", "--pretty", "--fields", "--noId", "--noHeaderLine"}
+FORMATS, TYPES = {"canonical", "relaxed"}, {"json", "csv"}
 WIDE_OPTIONS = OPTIONS | {"--queryFile", "--bson", "--count"} | LAYOUT
 BY_VALUE = {"--byValue"}
 DUMPS = {"one.bson", "two.bson", "room/"}
@@ -92,6 +93,9 @@ OF_BSONWIDE: list[Row] = [
     ("dump one.bson --fields ", set(), set()),
     ("dump one.bson --jsonFormat ", FORMATS, set()),
     ("dump --jsonFormat r", {"relaxed"}, set()),
+    ("dump one.bson --type ", TYPES, set()),
+    ("dump one.bson --type c", {"csv"}, set()),
+    ("dump one.bson --type csv --no", {"--noId", "--noHeaderLine"}, set()),
     ("dump --jsonFormat relaxed ", DUMPS | {"-"}, LAYOUT - {"--jsonFormat"} | OTHERS),
     # The commands of serve come from standard input, so it has no hyphen.
     ("serve ", DUMPS, BY_VALUE | OTHERS),
@@ -112,12 +116,13 @@ OF_BSONWIDE: list[Row] = [
     ("find one.bson --count --", WIDE_OPTIONS - LAYOUT - {"--bson", "--count", "--batch"}, set()),
     ("find one.bson --jsonArray --", WIDE_OPTIONS - {"--jsonArray", "--bson", "--count"}, set()),
     ("find one.bson --fields a --", WIDE_OPTIONS - {"--fields", "--bson", "--count"}, set()),
+    ("find one.bson --pretty --", WIDE_OPTIONS - {"--pretty", "--bson", "--count"}, set()),
     ("find one.bson --jsonFormat ", FORMATS, set()),
     ("find one.bson --batch 3 --", WIDE_OPTIONS - {"--batch", "--count"}, set()),
     ("find --bson ", DUMPS | {"-"}, WIDE_OPTIONS - LAYOUT - {"--bson", "--count"} | OTHERS),
 ]
 ROWS = {"bsonfind": OF_BSONFIND, "bsonwide": OF_BSONWIDE}
-KNOWN = COMMANDS | OF_WIDE | WIDE_OPTIONS | BY_VALUE | FORMATS | DUMPS | OTHERS | HELP | {"-"}
+KNOWN = COMMANDS | OF_WIDE | WIDE_OPTIONS | BY_VALUE | FORMATS | TYPES | DUMPS | OTHERS | HELP | {"-"}
 PROMPT = "ready> "
 
 

@@ -10,6 +10,8 @@ are; standard error and the status stay. A query in a file has the answer of the
 where its `$type`s split the four types of numbers into more than two classes.
 """
 
+import csv
+import io
 import random
 import re
 import subprocess
@@ -93,6 +95,7 @@ class Finding:
             self.tests.want(name, (status, found) == (1, []) and said.startswith("bsonwide: ") and said.count("\n") == 1, (status, said))
             self.forms(name, words, (status, said), b"", b"")
             self.layouts(name, words, (status, said), None)
+            self.rows(name, words, (status, said), None)
         elif said == TYPES:
             self.refused += 1
             self.tests.want(name, (status, found) == (1, []) and more_classes(query), status)
@@ -105,6 +108,7 @@ class Finding:
             documents = documents_of(model.bytes)
             self.forms(name, words, (status, said), b"".join(documents[place] for place in places), f"{len(places)}\n".encode())
             self.layouts(name, words, (status, said), places)
+            self.rows(name, words, (status, said), places)
             self.pages(name, words, wanted)
         if self.rng.random() < 0.2:
             (self.room / "query.json").write_text(f"{words[1]}\n", encoding="utf-8")
@@ -126,6 +130,20 @@ class Finding:
         for more, wanted in (([], [f"{it}\n" for it in texts]), (["--jsonArray"], array)):
             status, found, said = self.run_bytes("find", "dump.bson", *words, *layout, *more)
             self.tests.want(f"{name}, {layout + more}", (found.decode(), status, said) == ("".join(wanted), *ended), (status, said, found, wanted))
+
+    def rows(self, name: str, words: list[str], ended: tuple[int, str], places: list[int] | None) -> None:
+        """As CSV the rows are those of `dump`, after the header; as read by Python's `csv`."""
+        layout = ["--type", "csv", "--fields", self.rng.choice(["a,b.c", "_id", "b,_id,a.0.b"])]
+        header, *all_rows = self.read_rows("dump", "dump.bson", *layout)[0]
+        for more in ([], ["--noHeaderLine"]):
+            got = self.read_rows("find", "dump.bson", *words, *layout, *more)
+            wanted = [] if places is None else [*([] if more else [header]), *(all_rows[place] for place in places)]
+            self.tests.want(f"{name}, {layout + more}", got == (wanted, *ended), (got, wanted))
+
+    def read_rows(self, *words: str) -> tuple[list[list[str]], int, str]:
+        """The rows on standard output, the status, and standard error."""
+        status, found, said = self.run_bytes(*words)
+        return list(csv.reader(io.StringIO(found.decode(), newline=""), strict=True)), status, said
 
     def pages(self, name: str, words: list[str], wanted: list[str]) -> None:
         """The pages of an answer, joined, are the answer."""

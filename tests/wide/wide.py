@@ -1,9 +1,12 @@
 #!/usr/bin/env python3
-"""Runs `bsonwide` beside the model of it: over worked examples, random and damaged documents, and each prefix of a small dump.
+"""Runs `bsonwide` beside the model of it: over worked examples, random and damaged documents, and each prefix of a small dump. Rows of CSV
+are also read by Python's `csv`.
 
 usage: tests/wide/wide.py [PROGRAM] [DOCUMENTS]     The last line is 'N passed, M failed'.
 """
 
+import csv
+import io
 import random
 import struct
 import subprocess
@@ -16,7 +19,7 @@ sys.path.insert(0, str(Path(__file__).resolve().parents[1]))
 from model.answers import decimal_of, double_text
 from model.dumps import LONGEST
 from model.inputs import a_decimal, a_double
-from model.wide import check, dump
+from model.wide import cells, check, dump, rows
 from support import ROOT, Tests, usage_of
 
 PROGRAM = Path(sys.argv[1]).resolve() if len(sys.argv) > 1 else ROOT / "bsonwide"
@@ -64,7 +67,7 @@ def a_value(levels: int) -> tuple[int, bytes]:
     kind = RNG.choice([1, 1, 1, 2, 3, 3, 4, 5, 6, 7, 8, 9, 10, 11, 12, 13, 14, 15, 16, 17, 18, 19, 19, 127, 255])
     if levels <= 0 and kind in (3, 4, 15):
         kind = 1
-    text = RNG.choices(b"xyz", k=RNG.randrange(6))
+    text = RNG.choices(RNG.choice([b"xyz", b'x,"\n\r= \\{']), k=RNG.randrange(6))
     string = four(len(text) + 1) + bytes(text) + b"\0"
     if kind == 1:
         return kind, a_double(RNG)
@@ -130,6 +133,7 @@ def ran(command: str, data: bytes, *options: bytes) -> tuple[bytes, bytes, int]:
 
 def main() -> int:
     tests = Tests()
+    csv.field_size_limit(LONGEST)
     tests.want("model of -0.0", double_text(bytes(7) + b"\x80") == "-0.0")
     for value, text in DOUBLES.items():
         tests.want(f"model of {value}", double_text(struct.pack("<d", value)) == text, double_text(struct.pack("<d", value)))
@@ -166,6 +170,10 @@ def main() -> int:
         made = ran("dump", data, b"--jsonFormat", b"relaxed")
         tests.want(f"dump, relaxed, {name}", made == dump(data, is_relaxed=True), made[1:])
         for words, wanted in (
+            (["--pretty"], dump(data, is_pretty=True)),
+            (["--jsonArray", "--pretty", "--fields", "a,b", "--jsonFormat", "relaxed"], dump(data, True, ["a", "b", "_id"], True, True)),
+            (["--type=csv", "--fields", "a,b.c,$.0,o.e"], rows(data, ["a", "b.c", "$.0", "o.e"])),
+            (["--type", "csv", "--fields=c", "--noHeaderLine"], rows(data, ["c"], has_header=False)),
             (["--jsonArray"], dump(data, is_array=True)),
             (["--fields", "a,b.c,o.e"], dump(data, fields=["a", "b.c", "o.e", "_id"])),
             (["--fields=_id,c.a.b", "--jsonFormat=relaxed"], dump(data, True, ["_id", "c.a.b"])),
@@ -173,6 +181,9 @@ def main() -> int:
         ):
             made = ran("dump", data, *map(str.encode, words))
             tests.want(f"dump {words}, {name}", made == wanted, made[1:])
+        fields = ["b", "a.1", 'c."', "~.a.b"]
+        made = ran("dump", data, b"--type", b"csv", b"--fields", ",".join(fields).encode())[0]
+        tests.want(f"rows as read by csv, {name}", list(csv.reader(io.StringIO(made.decode(), newline=""), strict=True)) == [fields, *cells(data, fields)])
 
     for words, status, out, err in (
         ([], 2, b"", USAGE), (["check"], 2, b"", USAGE), (["sort", "-"], 2, b"", USAGE), (["check", "-", "-"], 2, b"", USAGE),
@@ -184,13 +195,23 @@ def main() -> int:
         (["dump", "-", "--jsonFormat"], 2, b"", USAGE), (["check", "-", "--jsonFormat", "relaxed"], 2, b"", USAGE),
         (["dump", "-", "--jsonFormat", "relaxed", "--jsonFormat", "relaxed"], 2, b"", USAGE),
         (["dump", "-", "--jsonArray"], 0, b"[]\n", NONE), (["dump", "-", "--type", "json"], 0, b"", NONE),
+        (["dump", "-", "--pretty"], 0, b"", NONE), (["dump", "-", "--pretty", "--jsonArray", "--type=json"], 0, b"[\n]\n\n", NONE),
+        (["dump", "-", "--type", "csv", "--fields", 'a.b,x y,"q"'], 0, b'a.b,x y,"""q"""\n', NONE),
+        (["dump", "-", "--type", "csv", "--fields", "a,_id", "--noHeaderLine"], 0, b"", NONE),
+        (["find", "-", "--type=csv", "--fields=_id"], 0, b"_id\n", b"0 documents, end\n"),
+        (["find", "-", "--pretty", "--jsonArray"], 0, b"[\n]\n\n", b"0 documents, end\n"),
+        *((["dump", "-", "--type", "csv", "--fields", it], 1, b"", FIELDS) for it in ("", "a,,b", "a.b,a", "_id,_id")),
         *((["dump", "-", "--fields", it], 1, b"", FIELDS) for it in ("", "a,", ",a", "a..b", "a,a", "a,a.b", "a.b,c,a", "_id.x,_id")),
         (["dump", "absent", "--fields", "a,a"], 1, b"", b"bsonwide: cannot open absent\n"),
         (["dump", "-", "--fields", "_id", "--noId"], 1, b"", FIELDS), (["find", "-", "--fields", "a,a.b"], 1, b"", FIELDS),
         (["find", "-", "--fields", "a,a", "--query", "{"], 1, b"", FIELDS), (["find", "-", "--jsonArray"], 0, b"[]\n", b"0 documents, end\n"),
         *(([command, "-", *words], 2, b"", USAGE) for command in ("dump", "find") for words in (
             ["--noId"], ["--fields"], ["--fields", "a", "--fields", "b"], ["--jsonArray", "--jsonArray"], ["--noHeaderLine"],
-            ["--type", "xml"], ["--jsonFormat", "plain"], ["--jsonArray", "--bson"], ["--fields", "a", "--count"], ["--noId", "--bson"],
+            ["--noHeaderLine", "--fields", "a"], ["--noHeaderLine", "--fields", "a", "--type", "json"], ["--type", "csv"], ["--type", "csv", "--noHeaderLine"],
+            *(["--type", "csv", "--fields", "a", *it] for it in (
+                ["--jsonArray"], ["--pretty"], ["--noId"], ["--jsonFormat", "relaxed"], ["--jsonFormat", "canonical"], ["--bson"], ["--count"], ["--type", "csv"],
+            )),
+            ["--type", "xml"], ["--type", "CSV", "--fields", "a"], ["--type", ""], ["--pretty", "--pretty"], ["--pretty", "--bson"], ["--pretty", "--count"], ["--jsonFormat", "plain"], ["--jsonArray", "--bson"], ["--fields", "a", "--count"], ["--noId", "--bson"],
             ["--jsonFormat", "canonical", "--bson"], ["--type", "json", "--count"],
         )),
         (["check", "-", "--jsonArray"], 2, b"", USAGE), (["pack", "-", "--fields", "a"], 2, b"", USAGE), (["serve", "absent", "--noId"], 2, b"", USAGE),

@@ -1,1 +1,2 @@
+mod CsvLemmas
 mod RunLemmas

@@ -7,10 +7,12 @@ version = codes "bsonwide 0.1.0\n"
 
 -- the usage of `bsonwide`
 abbrev pub usage : List ℕ
-usage = codes "usage: bsonwide dump FILE [--jsonFormat FORMAT] [--jsonArray] [--fields FIELDS] [--noId]\n"
+usage = codes "usage: bsonwide dump FILE [--type TYPE] [--jsonFormat FORMAT] [--jsonArray] [--pretty]"
+    ++ codes " [--fields FIELDS] [--noId] [--noHeaderLine]\n"
     ++ codes "       bsonwide check FILE\n"
     ++ codes "       bsonwide pack FILE\n"
     ++ codes "       bsonwide find FILE [--query Q | --queryFile FILE] [--sort S] [--skip N] [--limit N]"
     ++ codes " [--batch N] [--index PATH] [--after TOKEN]"
-    ++ codes " [--jsonFormat FORMAT] [--jsonArray] [--fields FIELDS] [--noId] [--bson | --count]\n"
+    ++ codes " [--type TYPE] [--jsonFormat FORMAT] [--jsonArray] [--pretty] [--fields FIELDS] [--noId] [--noHeaderLine]"
+    ++ codes " [--bson | --count]\n"
     ++ codes "       bsonwide serve FILE [--byValue]\n"

@@ -36,14 +36,17 @@
 //! - `command`: `Command`, and `run`, a whole run over devices.
 //! - `dump` and `find`: documents of all types, in a layout.
 //! - `pack`: the documents of all types in lines.
+//! - `laws`: what is printed as CSV is read back.
 //! - `output`: the usage and the version.
 #![tactic(auto)]
 
 mod command;
 mod dump;
 mod find;
+mod laws;
 mod output;
 mod pack;
 
 pub use command::{Command, is_serve, reads_first, run};
+pub use laws::csv_is_read_back;
 pub use output::{PROGRAM, report, version};

@@ -18,10 +18,10 @@ pub(crate) const FIELDS_REFUSED: &str = "fields: not paths to separate fields";
 
 /// The answer to a request for help and to invalid arguments.
 const USAGE: &str =
-    "usage: bsonwide dump FILE [--jsonFormat FORMAT] [--jsonArray] [--fields FIELDS] [--noId]
+    "usage: bsonwide dump FILE [--type TYPE] [--jsonFormat FORMAT] [--jsonArray] [--pretty] [--fields FIELDS] [--noId] [--noHeaderLine]
        bsonwide check FILE
        bsonwide pack FILE
-       bsonwide find FILE [--query Q | --queryFile FILE] [--sort S] [--skip N] [--limit N] [--batch N] [--index PATH] [--after TOKEN] [--jsonFormat FORMAT] [--jsonArray] [--fields FIELDS] [--noId] [--bson | --count]
+       bsonwide find FILE [--query Q | --queryFile FILE] [--sort S] [--skip N] [--limit N] [--batch N] [--index PATH] [--after TOKEN] [--type TYPE] [--jsonFormat FORMAT] [--jsonArray] [--pretty] [--fields FIELDS] [--noId] [--noHeaderLine] [--bson | --count]
        bsonwide serve FILE [--byValue]
 ";
 

@@ -18,5 +18,6 @@ at_the_end : next_record default_config st.StartRecord [] [] [] ≡ None
 unfolding next_record
 at_the_end = refl
 
+-- any rows, one after the other
 pub rows_read : (rows : List (List (List ℕ))) → AreRecords default_config st.StartRecord (flat_map (row_text default_writer) rows) (map read_back rows)
 rows_read rows = (st.StartRecord, [], all_reached rows, at_the_end)

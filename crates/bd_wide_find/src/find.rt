@@ -192,7 +192,7 @@ fn print_form<T: PlacePrinter, B: PlacePrinter, O: Output, E: Output>(
 }
 
 /// What is around the texts of documents in a layout.
-fn around_in(layout: &Layout) -> Around<'static>
+fn around_in(layout: &Layout) -> Around<'_>
     ensures { around_of result ≡ around_in (layout_view layout.now) }
 {
     Around {

@@ -17,11 +17,12 @@
 //!     index: None,
 //!     after: None,
 //! };
-//! let layout = Layout {
+//! let layout = Layout::Json(JsonLayout {
 //!     format: JsonFormat::Canonical,
 //!     paths: None,
 //!     is_array: false,
-//! };
+//!     is_pretty: false,
+//! });
 //! let mut file = MemoryInput::new(bytes, 28, None);
 //! let mut buffer = [0; 100];
 //! let mut out = MemoryOutput::new(&mut buffer, 100, None);

@@ -11,7 +11,7 @@ use bd_cli_print::PlacePrinter;
 use bd_extjson_text::{End, append_few};
 use bd_wide_copy::{Starts, WideDump};
 use bd_wide_dump::{JsonFormat, append_wide};
-use bd_wide_layout::{Layout, append_document};
+use bd_wide_layout::{Layout, Scratch, append_document};
 use std::alloc::Global;
 
 /// Prints the documents of a dump of all types at the places of a copy of it, in which each document has the same number.
@@ -56,16 +56,9 @@ impl PlacePrinter for LaidOutWide<'_> {
 
     #[inline(always)]
     fn append(&self, _copy: &Dump, place: u32, buffer: &mut Vec<u8>, end: usize) -> End {
-        let mut projected = Vec::new(self.alloc);
+        let mut scratch = Scratch::new(self.alloc);
         let document = self.dump.document(place);
-        append_document(
-            self.alloc,
-            self.layout,
-            document,
-            &mut projected,
-            buffer,
-            end,
-        )
+        append_document(self.alloc, self.layout, document, &mut scratch, buffer, end)
     }
 }
 
@@ -87,16 +80,9 @@ impl PlacePrinter for LaidOut<'_> {
 
     #[inline(always)]
     fn append(&self, dump: &Dump, place: u32, buffer: &mut Vec<u8>, end: usize) -> End {
-        let mut projected = Vec::new(self.alloc);
+        let mut scratch = Scratch::new(self.alloc);
         let document = self.starts.document(dump.bytes(), place);
-        append_document(
-            self.alloc,
-            self.layout,
-            document,
-            &mut projected,
-            buffer,
-            end,
-        )
+        append_document(self.alloc, self.layout, document, &mut scratch, buffer, end)
     }
 }
 

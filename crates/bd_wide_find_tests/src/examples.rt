@@ -9,7 +9,7 @@ use bd_wide_copy::read_wide_dump;
 use bd_wide_dump::JsonFormat;
 use bd_wide_find::WidePrinter;
 use bd_wide_find::find::find;
-use bd_wide_layout::Layout;
+use bd_wide_layout::{JsonLayout, Layout};
 use std::test::Fail;
 
 #[test]
@@ -42,11 +42,12 @@ fn find_by_value(rt: HostRuntime) -> Result<(), Fail> {
         index: None,
         after: None,
     };
-    let layout = Layout {
+    let layout = Layout::Json(JsonLayout {
         format: JsonFormat::Canonical,
         paths: None,
         is_array: false,
-    };
+        is_pretty: false,
+    });
     let mut file = MemoryInput::new(bytes, 28, None);
     let mut buffer = [0; 100];
     let mut out = MemoryOutput::new(&mut buffer, 100, None);

@@ -1,6 +1,6 @@
 //! What is printed for one document after the other.
 
-use crate::layout::{Layout, append_document};
+use crate::layout::{Layout, Scratch, append_document};
 use bd_extjson_text::append_few;
 use bd_value::NoMemory;
 use std::alloc::Global;
@@ -8,7 +8,7 @@ use std::alloc::Global;
 /// Buffers for what is printed for one document after the other, each over the one before. They are allocated once, and grow.
 #[derive(Debug, Drop)]
 pub struct LayoutBuffer {
-    projected: Vec<u8>,
+    scratch: Scratch,
     buffer: Vec<u8>,
 }
 
@@ -21,7 +21,7 @@ impl LayoutBuffer {
     /// Empty buffers.
     pub fn new(alloc: Global) -> LayoutBuffer {
         LayoutBuffer {
-            projected: Vec::new(alloc),
+            scratch: Scratch::new(alloc),
             buffer: Vec::new(alloc),
         }
     }
@@ -41,9 +41,9 @@ impl LayoutBuffer {
         ensures { IfOk result (λ piece.
             IsPieceOfBytes (layout_view layout.now) number bytes.now piece.now) }
     {
-        let projected = &mut self.projected;
+        let scratch = &mut self.scratch;
         let end = append_few(layout.before(number), &mut self.buffer, 0)?;
-        let end = append_document(alloc, layout, bytes, projected, &mut self.buffer, end)?;
+        let end = append_document(alloc, layout, bytes, scratch, &mut self.buffer, end)?;
         let end = append_few(layout.ending(), &mut self.buffer, end)?;
         Ok(&self.buffer[..end])
     }

@@ -10,7 +10,7 @@ use bd_wide::number_in;
 use bd_wide_advice::advice_at;
 use bd_wide_cli::{Command, is_serve, report, run, version};
 use bd_wide_dump::{JsonFormat, WideTextBuffer};
-use bd_wide_layout::{Layout, LayoutBuffer};
+use bd_wide_layout::{JsonLayout, Layout, LayoutBuffer, go_together, read_layout};
 use bd_wide_number::{Number, code_of};
 use bd_wide_text::write_double;
 use std::test::Fail;
@@ -148,14 +148,14 @@ fn served(rt: HostRuntime) {
 #[test]
 fn reports(rt: HostRuntime) {
     let usage =
-        "usage: bsonwide dump FILE [--jsonFormat FORMAT] [--jsonArray] [--fields FIELDS] [--noId]
+        "usage: bsonwide dump FILE [--type TYPE] [--jsonFormat FORMAT] [--jsonArray] [--pretty] [--fields FIELDS] [--noId] [--noHeaderLine]
        bsonwide check FILE
        bsonwide pack FILE
-       bsonwide find FILE [--query Q | --queryFile FILE] [--sort S] [--skip N] [--limit N] [--batch N] [--index PATH] [--after TOKEN] [--jsonFormat FORMAT] [--jsonArray] [--fields FIELDS] [--noId] [--bson | --count]
+       bsonwide find FILE [--query Q | --queryFile FILE] [--sort S] [--skip N] [--limit N] [--batch N] [--index PATH] [--after TOKEN] [--type TYPE] [--jsonFormat FORMAT] [--jsonArray] [--pretty] [--fields FIELDS] [--noId] [--noHeaderLine] [--bson | --count]
        bsonwide serve FILE [--byValue]
 ";
-    let mut buffer = [0; 500];
-    let mut out = MemoryOutput::new(&mut buffer, 500, None);
+    let mut buffer = [0; 700];
+    let mut out = MemoryOutput::new(&mut buffer, 700, None);
     let mut err = MemoryOutput::new(&mut [], 1, None);
     assert!(rt; report(&WordsFault::Help, &mut out, &mut err) == Status::Done);
     assert!(rt; out.bytes() == usage.as_bytes());
@@ -166,15 +166,42 @@ fn reports(rt: HostRuntime) {
 #[test]
 fn in_an_array(rt: HostRuntime) -> Result<(), Fail> {
     let alloc = rt.alloc();
-    let layout = Layout {
+    let layout = Layout::Json(JsonLayout {
         format: JsonFormat::Relaxed,
         paths: None,
         is_array: true,
-    };
+        is_pretty: false,
+    });
     let bytes = b"\x05\0\0\0\0";
     check_bytes(alloc, Profile::All, bytes, 0, 0)?;
     let mut buffer = LayoutBuffer::new(alloc);
     let piece = buffer.piece(alloc, &layout, 1, bytes)?;
     assert!(rt; piece == b",{}".as_slice());
+    Ok(())
+}
+
+/// The header and a row of CSV.
+#[test]
+fn as_csv(rt: HostRuntime) -> Result<(), Fail> {
+    let alloc = rt.alloc();
+    let options = LayoutOptions {
+        output: Some(String::from_str(alloc, "csv")?),
+        format: None,
+        fields: Some(String::from_str(alloc, "d,e")?),
+        no_id: false,
+        no_header: false,
+        is_array: false,
+        is_pretty: false,
+    };
+    assert!(rt; go_together(&options));
+    let Some(layout) = read_layout(alloc, &options)? else {
+        return Err(Fail::new("no layout"));
+    };
+    assert!(rt; layout.opening() == b"d,e\n".as_slice());
+    let bytes = b"\x10\0\0\0\x01d\0\0\0\0\0\0\0\xf8\x3f\0";
+    check_bytes(alloc, Profile::All, bytes, 0, 0)?;
+    let mut buffer = LayoutBuffer::new(alloc);
+    let piece = buffer.piece(alloc, &layout, 0, bytes)?;
+    assert!(rt; piece == b"1.5,\n".as_slice());
     Ok(())
 }
