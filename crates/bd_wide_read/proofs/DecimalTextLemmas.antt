@@ -304,15 +304,15 @@ power_unquoted sum small =
 string_unquoted : (ds : List ℕ) (b : ℕ) → AllDigits 10 ds → b + length ds < 2 ^ 60 → IsUnquoted (scientific_string ds b)
 unfolding scientific_string
 string_unquoted ds b all small =
-    let places = 6176 - b in
+    let n = 6176 - b in
     elim (ltb 6176 b || ltb (b + length ds) 6171) as (λ x. IsUnquoted (cond x (mantissa ds ++ power_text (b + length ds))
-    (cond (b == 6176) ds (cond (ltb places (length ds)) (take (length ds - places) ds ++ (46 ∷ drop (length ds - places) ds)) (48 ∷ 46 ∷ (zeros (places - length ds) ++ ds)))))) [
+    (cond (b == 6176) ds (cond (ltb n (length ds)) (take (length ds - n) ds ++ (46 ∷ drop (length ds - n) ds)) (48 ∷ 46 ∷ (zeros (n - length ds) ++ ds)))))) [
       | true ↦ both_unquoted (mantissa ds) (power_text (b + length ds)) (mantissa_unquoted ds all) (power_unquoted (b + length ds) small)
-      | false ↦ elim (b == 6176) as (λ x. IsUnquoted (cond x ds (cond (ltb places (length ds)) (take (length ds - places) ds ++ (46 ∷ drop (length ds - places) ds)) (48 ∷ 46 ∷ (zeros (places - length ds) ++ ds))))) [
+      | false ↦ elim (b == 6176) as (λ x. IsUnquoted (cond x ds (cond (ltb n (length ds)) (take (length ds - n) ds ++ (46 ∷ drop (length ds - n) ds)) (48 ∷ 46 ∷ (zeros (n - length ds) ++ ds))))) [
         | true ↦ digits_unquoted ds all
-        | false ↦ elim (ltb places (length ds)) as (λ x. IsUnquoted (cond x (take (length ds - places) ds ++ (46 ∷ drop (length ds - places) ds)) (48 ∷ 46 ∷ (zeros (places - length ds) ++ ds)))) [
-          | true ↦ both_unquoted (take (length ds - places) ds) (46 ∷ drop (length ds - places) ds) (digits_unquoted _ (AllDigits-take (length ds - places) ds all)) (digits_unquoted (drop (length ds - places) ds) (AllDigits-drop (length ds - places) ds all))
-          | false ↦ both_unquoted (zeros (places - length ds)) ds (digits_unquoted _ (AllDigits-zeros (places - length ds))) (digits_unquoted ds all)
+        | false ↦ elim (ltb n (length ds)) as (λ x. IsUnquoted (cond x (take (length ds - n) ds ++ (46 ∷ drop (length ds - n) ds)) (48 ∷ 46 ∷ (zeros (n - length ds) ++ ds)))) [
+          | true ↦ both_unquoted (take (length ds - n) ds) (46 ∷ drop (length ds - n) ds) (digits_unquoted _ (AllDigits-take (length ds - n) ds all)) (digits_unquoted (drop (length ds - n) ds) (AllDigits-drop (length ds - n) ds all))
+          | false ↦ both_unquoted (zeros (n - length ds)) ds (digits_unquoted _ (AllDigits-zeros (n - length ds))) (digits_unquoted ds all)
         ]
       ]
     ]
