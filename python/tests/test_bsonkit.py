@@ -317,6 +317,25 @@ class Programs(Room):
             (self.room / "starts").unlink()
 
 
+    def test_program_that_is_a_link(self) -> None:
+        """The programs are those beside what it leads to, and not others on PATH."""
+        self.script('echo "$1" >>"$ROOM/starts"\nexec "$WIDE" "$@"', "real/bsonwide")
+        self.script('exec "$PROGRAM" "$@"', "real/bsonfind")
+        self.script("exit 7", "other/bsonwide")
+        link = self.room / "other/link"
+        link.symlink_to("../real/bsonfind")
+        (self.room / "bin").mkdir()
+        (self.room / "bin/bsonfind").symlink_to(link)
+        packed = str(self.file(gzip.compress(PEOPLE.read_bytes()), "packed.bson.gz"))
+        env = {**environment(), "PATH": f"{self.room}/other:{os.environ['PATH']}"}
+        for words in (["check", str(PEOPLE)], ["check", packed], ["find", packed, "--count"], ["audit", packed]):
+            command = [sys.executable, "-m", "bsonfind", "--program", str(self.room / "bin/bsonfind"), *words]
+            run = subprocess.run(command, env=env, capture_output=True, text=True)
+            self.assertEqual(run.returncode, 0, run.stderr)
+            self.assertEqual(self.starts(), ["--version", words[0].replace("audit", "check")])
+            (self.room / "starts").unlink()
+
+
 class Streams(Room):
     def test_standard_error_that_takes_nothing(self) -> None:
         """The status is not that of a fault."""

@@ -17,7 +17,7 @@ MOST_LINES = 350
 MOST_IMPORTED, MOST_OWN = 45, 12
 # What reads what a program printed.
 READERS = {
-    "lines_of", "faults_of", "finish", "finish_check", "finish_dump", "counted", "read_reply", "read_batch", "documents_in", "document_at",
+    "lines_of", "faults_of", "all_faults", "finish", "finish_check", "finish_dump", "counted", "read_reply", "read_batch", "documents_in", "document_at",
     "numbers_in", "error_of", "error_line", "read_fault", "messages", "lines_of_documents", "refuse_other_count",
 }  # fmt: skip
 # Each place that calls one of them, and what it does with what was printed. None of them decides what is a fault, or what matches.
@@ -25,7 +25,7 @@ PLACES = {
     "_ask/connections.Connection.fields": "reads a reply",
     "_ask/decoding.Decoding.batch": "cuts a batch into its documents",
     "_ask/decoding.Parsed.give": "reads a document",
-    "_ask/lines.Lines._by_run": "passes lines or documents on, and the end and the token; compares the count with that of what was printed",
+    "_ask/lines.Lines.batches": "passes lines or documents on, and the end and the token; compares the count with that of what was printed",
     "_ask/lines.Lines.count": "takes the count, which is printed twice, and compares these",
     "_ask/lines.counted": "reads the line of the count; compares it with that of what was printed",
     "_ask/merge._check": "moves the places of faults to those in the whole file",
@@ -33,10 +33,12 @@ PLACES = {
     "_ask/replies.documents_in": "cuts a batch into its documents",
     "_ask/readings.Reading._read": "reads a reply",
     "_ask/readings.Reading.token": "reads a reply",
-    "_backup/beginnings.Check.faults": "compares the count with that of what was given",
+    "_dumps/checking.all_faults": "compares the count with that of what was given",
+    "_backup/beginnings.Beginnings._undamaged_of": "takes the places after which there is no damage",
     "_backup/ids._Finding.pass_on": "passes lines on; takes a document that dump refuses for one with a fault",
     "_backup/query._answer": "passes lines on",
-    "_backup/reading._Batch.good": "notes faults, and leaves out their documents; compares the count with that of what was given",
+    "_backup/reading._Batch.good": "notes faults, and leaves out their documents",
+    "_backup/salvage.Salvaging._documents": "tells documents with a fault from others",
     "_command/dumping.Dumping.__init__": "asks no documents, so that refused fields are reported",
     "_command/dumping.Dumping._print": "reads the line of the count; the place of a fault is moved to that in the dump",
     "_command/finding.Finding._print_all": "passes the line of the count on",
@@ -129,10 +131,9 @@ WIDE = {
     "_ask/merge._Asking.each": "ends all runs, and raises it, or the error of the first part that failed",
     "_ask/plans.now": "gives it to the plan, which raises what comes of it",
     "_ask/questions.Questions.__init__": "closes what was opened, and raises it",
-    "_ask/questions.Questions._first": "closes the file, and raises it",
     "_backup/audit._check_all": "ends all runs, and raises it",
     "_command/shell.run_command": "reports it, with a status that is not 0",
-    "_dumps/originals.Spool.original": "closes the file, and raises it",
+    "_dumps/originals.kept": "closes the file, and raises it",
     "_run/processes.Feeder.run": "ends the run, and is raised where that is waited for",
     "_run/processes.Run._feed": "ends the run, and raises it",
     "_run/processes.Run._start": "closes the file, and raises it",

@@ -1,12 +1,15 @@
 """Tests of what bounds a session: one deadline for a whole question."""
 
+import asyncio
+import threading
 import time
 import unittest
-from typing import Callable
+from pathlib import Path
+from typing import Callable, List
 
 from bsonfind import AsyncSession, Session, SessionEndedError, TimedOutError, count_documents
 
-from .support import PEOPLE, Room
+from .support import PATIENCE, PEOPLE, Room, wait_for
 
 # A session over a dump without doubles asks this of a second run.
 DOUBLE = {"age": 1.5}
@@ -42,6 +45,46 @@ class Deadlines(Room, unittest.IsolatedAsyncioTestCase):
         session = Session(PEOPLE, program, timeout=2.5)
         self.in_time(lambda: session.create_index("a") and session.find_one({"a": 1}) and None)
         session.close()
+
+    def stuck_second_run(self) -> str:
+        """Programs of which a second run never reads its dump; the file `pids` has its number."""
+        return self.wide('case $3 in --byValue) echo $$ >>"$ROOM/pids"; exec sleep 600 ;; esac\nexec "$WIDE" "$@"')
+
+    def is_second_run(self) -> bool:
+        """Whether the second run was started."""
+        return (self.room / "pids").exists() and bool((self.room / "pids").read_text())
+
+    def want_no_second_run(self) -> None:
+        """It has ended."""
+        pids = (self.room / "pids").read_text().split()
+        self.assertEqual([pid for pid in pids if Path("/proc", pid).exists()], [])
+
+    def test_session_that_is_closed_meanwhile(self) -> None:
+        """While a second run is started for a question: that is not answered, and no run stays."""
+        session = Session(PEOPLE, self.stuck_second_run())
+        raised: List[SessionEndedError] = []
+
+        def ask() -> None:
+            with self.assertRaises(SessionEndedError) as caught:
+                session.count_documents(DOUBLE)
+            raised.append(caught.exception)
+
+        asking = threading.Thread(target=ask)
+        asking.start()
+        wait_for(self.is_second_run)
+        session.close()
+        asking.join(PATIENCE)
+        self.assertEqual([str(it) for it in raised], ["the session was closed"])
+        self.want_no_second_run()
+
+    async def test_asyncio_session_that_is_closed_meanwhile(self) -> None:
+        session = await AsyncSession(PEOPLE, self.stuck_second_run()).open()
+        asking = asyncio.ensure_future(session.count_documents(DOUBLE))
+        await asyncio.get_running_loop().run_in_executor(None, wait_for, self.is_second_run)
+        await session.close()
+        with self.assertRaisesRegex(SessionEndedError, "the session was closed"):
+            await asking
+        self.want_no_second_run()
 
     async def test_asyncio(self) -> None:
         session = await AsyncSession(PEOPLE, self.stalled(), timeout=2.5).open()

@@ -1,10 +1,13 @@
 """Tests of what was wrong at the edges of the package to the system, each by the name of what it was."""
 
+import gc
 import gzip
 import json
 import os
 import subprocess
 import tempfile
+import threading
+import warnings
 from decimal import Decimal
 from types import MappingProxyType
 from typing import Dict
@@ -27,6 +30,8 @@ from bsonfind._ask.decoding import Parsed, Texts
 from bsonfind._ask.requests import text_of
 from bsonfind._ask.values import plain_document
 from bsonfind._backup.sorting import Sorter
+from bsonfind._dumps.archive import documents_of
+from bsonfind._dumps.archive_frames import Namespace
 from bsonfind._dumps.files import member_of
 from bsonfind._errors import ProgramError
 
@@ -169,7 +174,7 @@ class Files(Room):
             unpack(ARCHIVE, "")
 
     def test_closed_standard_output_undoes_nothing(self) -> None:
-        """`salvage .. | head` keeps both files: they have their names before it reports."""
+        """`salvage .. | head` keeps both files, and `unpack` all: they have their names before it reports."""
         path = self.file(PEOPLE.read_bytes() + DAMAGED)
         read, write = os.pipe()
         os.close(read)
@@ -181,6 +186,8 @@ class Files(Room):
         self.assertEqual(run.returncode, 2)
         self.assertEqual((self.room / "good").read_bytes(), PEOPLE.read_bytes())
         self.assertEqual((self.room / "bad").read_bytes(), DAMAGED)
+        self.want_broken_pipe("unpack", str(ARCHIVE), f"{self.room}/out")
+        self.assertEqual((self.room / "out/club/people.bson").read_bytes(), b"".join(documents_of(iter([ARCHIVE.read_bytes()]), Namespace("club", "people"))))
 
     def test_full_directory_for_temporary_files(self) -> None:
         """Messages of programs need no disk; a sort that does names the directory."""
@@ -190,6 +197,31 @@ class Files(Room):
                 sorter.add(b"a\n")
         self.assertIn(tempfile.gettempdir(), str(raised.exception))
         self.assertIn("TMPDIR", str(raised.exception))
+
+    def test_files_that_are_closed(self) -> None:
+        """None is left to the collector, as of what is packed or comes by a pipe, of which a session keeps a copy."""
+        packed = self.file(gzip.compress(PEOPLE.read_bytes()), "people.bson.gz")
+        pipe = self.room / "pipe"
+        os.mkfifo(pipe)
+        with warnings.catch_warnings(record=True) as told:
+            warnings.simplefilter("always", ResourceWarning)
+            for path in (PEOPLE, packed, pipe):
+                for ask in (self._ask_once, self._ask_session):
+                    writer = threading.Thread(target=pipe.write_bytes, args=[PEOPLE.read_bytes()])
+                    if path == pipe:
+                        writer.start()
+                    self.assertEqual(ask(path), PEOPLE.read_bytes())
+                    if path == pipe:
+                        writer.join()
+            gc.collect()
+        self.assertEqual([str(it.message) for it in told], [])
+
+    def _ask_once(self, path: object) -> bytes:
+        return b"".join(find(path, decode="bson", program=PROGRAM))
+
+    def _ask_session(self, path: object) -> bytes:
+        with Session(path, PROGRAM) as session:
+            return b"".join(session.find({"age": {"$lt": 999.5}}, decode="bson"))
 
     def test_memory_of_compare(self) -> None:
         """Long lines are written to files by their bytes, not by their number."""

@@ -1,6 +1,7 @@
 """Tests of standard input: closed, not blocking, by its other names, and in the middle of a file. What is there is read, or an error."""
 
 import os
+import socket
 import subprocess
 import sys
 import threading
@@ -79,6 +80,18 @@ class StandardInput(Room):
                             self.assertEqual(status, 0, said)
                             self.assertIn(TOLD[command].format(4), said)
 
+    def test_sockets(self) -> None:
+        """A socket, as a program below node has it, cannot be opened again by a name."""
+        for command, told in TOLD.items():
+            ours, theirs = socket.socketpair()
+            with ours, theirs:
+                ours.sendall(DATA)
+                ours.shutdown(socket.SHUT_WR)
+                status, said = self.run_over(self.words(command, "-"), theirs.fileno())
+            with self.subTest(command):
+                self.assertEqual(status, 0, said)
+                self.assertIn(told.format(4), said)
+
     def test_in_the_middle_of_a_file(self) -> None:
         """What is left is read, and a fault has its place there."""
         path = self.file(DATA)
@@ -94,7 +107,9 @@ class StandardInput(Room):
     def test_commands_over_many_files(self) -> None:
         """`-` is standard input there too, and never a file of that name; a pipe that it is counts once, by each of its names."""
         self.file(DOCUMENTS[0], "-")
+        self.file(b"2\n", "ids")
         for words, told in (
+            (["ids", "-", "--ids", "ids"], '{"_id":{"$numberInt":"2"}}'),
             (["audit", "-"], "-: 4 documents, 0 faulty"),
             (["audit", "-", "/dev/stdin"], "/dev/stdin: 4 documents, 0 faulty"),
             (["audit", "./-", "-"], "./-: 1 documents, 0 faulty"),

@@ -3,9 +3,9 @@
 from __future__ import annotations
 
 import re
-from contextlib import ExitStack, closing
+from contextlib import ExitStack, contextmanager
 from io import BufferedReader
-from typing import Any, NamedTuple, Sequence, Union
+from typing import Any, Callable, Iterator, NamedTuple, Sequence
 
 from .._dumps.passing import documents_taken
 from .._dumps.printing import Batches, lines_of
@@ -18,8 +18,6 @@ from .requests import LONGEST_FILTER, Request
 
 _COUNTED = re.compile(r"(\d+) documents, (end|more)(?:, token (\S+))?\n")
 _PIECE = 1 << 16
-# What is asked: a dump that is open, or bytes.
-Asked = Union[Source, Dump]
 
 
 class Counted(NamedTuple):
@@ -61,7 +59,7 @@ class Lines:
 
     def __init__(
         self,
-        dump: File | Asked,
+        dump: File | Dump,
         request: Request,
         program: str,
         *,
@@ -80,43 +78,39 @@ class Lines:
 
     def batches(self) -> Batches:
         """The lines as they come, without their newlines, or documents. Closing this ends the program."""
-        with ExitStack() as files:
-            dump = self._opened(files)
-            for some in files.enter_context(closing(self._by_run(dump))):
-                check(dump)
+        number = 0
+        with self._running(*(["--bson"] if self._is_bson else [])) as (run, check):
+            for some in (documents_of if self._is_bson else lines_of)(run.stdout):
+                number += len(some)
+                check()
                 yield some
-            check(dump)
+            _documents, self.end, self.token = counted(run, number)
+            check()
 
     def count(self) -> int:
         """How many lines there are."""
-        with ExitStack() as files:
-            dump = self._opened(files)
-            with self._run(dump, "--count") as run:
-                told = run.stdout.read(_PIECE)
-                documents = counted(run).documents
-            check(dump)
+        with self._running("--count") as (run, check):
+            told = run.stdout.read(_PIECE)
+            documents = counted(run).documents
+            check()
         if told != f"{documents}\n".encode():
             raise ProgramError(f"find printed {told[:60]!r} in place of {documents}")
         return documents
 
-    def _opened(self, files: ExitStack) -> Asked:
-        if isinstance(self._dump, (Source, Dump)):
-            return self._dump
-        return files.enter_context(Source(name_of_file(self._dump), is_named=True))
-
-    def _run(self, asked: Asked, *more: str) -> Run:
-        dump = asked.dump() if isinstance(asked, Source) else asked
+    @contextmanager
+    def _running(self, *more: str) -> Iterator[tuple[Run, Callable[[], None]]]:
+        """A run of `find`, and what refuses a dump that is no longer as it was when it was opened."""
         options = (("batch", self._size), ("index", self._index), ("after", self._after))
         words = [*(f"--{name}={value}" for name, value in options if value is not None), *more]
-        return finding(dump, self._request, self._program, words, group=self._group)
-
-    def _by_run(self, dump: Asked) -> Batches:
-        number = 0
-        with self._run(dump, *(["--bson"] if self._is_bson else [])) as run:
-            for some in (documents_of if self._is_bson else lines_of)(run.stdout):
-                number += len(some)
-                yield some
-            _documents, self.end, self.token = counted(run, number)
+        with ExitStack() as files:
+            dump: Dump
+            check: Callable[[], None] = lambda: None
+            if isinstance(self._dump, Dump):
+                dump = self._dump
+            else:
+                source = files.enter_context(Source(name_of_file(self._dump), is_named=True))
+                dump, check = source.dump(), source.check
+            yield files.enter_context(finding(dump, self._request, self._program, words, group=self._group)), check
 
 
 def documents_of(pipe: BufferedReader) -> Batches:
@@ -126,12 +120,6 @@ def documents_of(pipe: BufferedReader) -> Batches:
         if found:
             yield found[:]
             found.clear()
-
-
-def check(dump: Asked) -> None:
-    """Refuses a dump that is no longer as it was when it was opened."""
-    if isinstance(dump, Source):
-        dump.check()
 
 
 def try_request(request: Request, program: str, group: Group | None = None) -> None:

@@ -7,7 +7,7 @@ import threading
 from contextlib import AbstractContextManager
 from typing import Any, Callable, ContextManager, Sequence, TypeVar
 
-from .._dumps.originals import Original, Spool
+from .._dumps.originals import Original, kept
 from .._dumps.sources import Source
 from .._errors import CancelledError, SessionEndedError
 from .._names import File, name_of_file
@@ -48,13 +48,11 @@ class Questions(AbstractContextManager["Questions"]):
         source = self._source
         if source.size is not None:
             return self._connect(source.dump())
-        spool = Spool(source.pieces())
-        try:
-            connection = self._connect(Dump(spool.pieces))
-        except BaseException:
-            spool.close()
-            raise
-        self._original = spool.original()
+        with kept(source.pieces()) as (file, passing):
+            connection = self._connect(Dump(passing))
+            for _ in passing:
+                pass  # The program read all of them.
+        self._original = Original(file)
         return connection
 
     def _connect(self, dump: Dump, options: Sequence[str] = ()) -> Connection:

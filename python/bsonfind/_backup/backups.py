@@ -12,11 +12,12 @@ from pathlib import PurePath
 from typing import Any, Iterable, Iterator, NamedTuple
 from urllib.parse import quote, unquote
 
+from .._dumps.archive import kind_of
 from .._dumps.archive_frames import Namespace
 from .._dumps.files import file_of, is_whole_archive, member_of
 from .._errors import FileError
 from .._names import File, name_of
-from .metadata import OPLOG, is_at_top, is_oplog, kind_of, read_metadata, read_metadata_file, stem_of_file
+from .metadata import OPLOG, is_at_top, is_oplog, read_metadata, read_metadata_file, stem_of_file
 
 _ENDING = re.compile(r"\.bson(\.gz)?$")
 _METADATA = re.compile(r"\.metadata\.json(\.gz)?$")
@@ -216,7 +217,7 @@ def stem_wanted(path: str, metadata: dict[str, Any] | None) -> str | None:
 
     That of a time series is the dump of its buckets.
     """
-    stem, kind = _METADATA.sub("", os.path.basename(path)), kind_of(metadata or {})
+    stem, kind = _METADATA.sub("", os.path.basename(path)), kind_of(metadata)
     if kind == "view":
         return None
     if kind != "timeseries" or stem.startswith("system.buckets."):

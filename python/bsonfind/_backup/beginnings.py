@@ -6,10 +6,10 @@ import re
 import struct
 from typing import Iterable, Iterator, NamedTuple
 
-from .._dumps.checking import checking, faults_of, finish_check
+from .._dumps.checking import all_faults, checking
 from .._dumps.framing import LONGEST, SHORTEST
-from .._faults import Fault, NO_DAMAGE
-from .._run.processes import Dump, Group, Run
+from .._faults import NO_DAMAGE
+from .._run.processes import Dump, Group
 from .window import Window
 
 # From this many documents in a row, or from fewer that end with the file, a place is guessed to be the beginning of a document.
@@ -33,30 +33,11 @@ _PIECE = 1 << 20
 _length_at = struct.Struct("<i").unpack_from
 
 
-class Check:
-    """The check of some documents after others."""
-
-    def __init__(self, program: str, group: Group | None = None) -> None:
-        self._program, self._group = program, group
-
-    def run(self, data: list[bytes]) -> Run:
-        """A run over documents."""
-        return checking(Dump(data), self._program, self._group)
-
-    def faults(self, data: list[bytes], documents: int, run: Run | None = None) -> list[Fault]:
-        """The damage of this many documents, as a run that was started finds it."""
-        run = run or self.run(data)
-        with run:
-            faults = list(faults_of(run))
-            finish_check(run, documents)
-        return faults
-
-
 class Beginnings:
     """The places of a stream from which documents follow one another without damage."""
 
-    def __init__(self, window: Window, check: Check) -> None:
-        self._window, self._check = window, check
+    def __init__(self, window: Window, program: str, group: Group | None = None) -> None:
+        self._window, self._program, self._group = window, program, group
 
     def after(self, start: int, end: int | None = None) -> int | None:
         """Where a document begins after a wrong length and before an end, None if none seems to. What is before that is dropped."""
@@ -132,8 +113,8 @@ class Beginnings:
         """The places of those chains in which one run finds no damage."""
         if not chains:
             return []
-        data = [data for it in chains for data in (it.before, it.data)]
-        faults = {it.document: it.kind for it in self._check.faults(data, sum(bool(it.before) + it.documents for it in chains))}
+        run = checking(Dump([data for it in chains for data in (it.before, it.data)]), self._program, self._group)
+        faults = {it.document: it.kind for it in all_faults(run, sum(bool(it.before) + it.documents for it in chains))}
         places, first = [], 0
         for chain in chains:
             documents = range(first + bool(chain.before), first + bool(chain.before) + chain.documents)

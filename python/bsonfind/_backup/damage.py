@@ -11,7 +11,7 @@ from .._dumps.sources import Source
 from .._errors import DumpError
 from .._faults import Fault
 from .._run.processes import Group
-from .beginnings import Beginnings, Check
+from .beginnings import Beginnings
 from .window import Window
 
 # The faults of a byte that has a value which it must not have, and those of the length of a document.
@@ -68,7 +68,7 @@ def _detail(window: Window, fault: Fault, start: int, program: str, group: Group
     window.has(start + _HEAD)
     value = window.byte(fault.offset) if fault.kind in _OF_A_BYTE and fault.offset < window.end else None
     head = window.part(start, min(start + _HEAD, end or window.end))
-    beginnings = Beginnings(window, Check(program, group))
+    beginnings = Beginnings(window, program, group)
     inside, is_part = (None, False) if end is None else beginnings.inside(start, end, fault.kind)
     goes_on = beginnings.after(start, start + 2 * LONGEST) if end is None else None if is_part else inside
     return Detail(value, _id_of(head, program, group), goes_on)

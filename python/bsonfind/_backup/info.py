@@ -7,12 +7,12 @@ import os
 from math import isfinite
 from typing import Any, Callable, Iterable, Iterator, NamedTuple, Sequence
 
-from .._dumps.archive import Listed
+from .._dumps.archive import Listed, kind_of, parsed
 from .._dumps.archive_frames import Namespace
 from .._dumps.files import INSIDE, member_of, name_in
 from .audit import audit_dumps
 from .backups import collection_of, dumps_of, metadata_below, namespace_of, stem_wanted
-from .metadata import kind_of, read_metadata, stem_of_file
+from .metadata import read_metadata, stem_of_file
 from .reports import Audit, Report
 from .watching import Watch
 
@@ -100,7 +100,7 @@ def _of_files(reports: Iterable[Report], names: Iterable[str], lists: dict[str, 
         path, found = described.pop(stem_of_file(report.name), (report.name, None))
         found = read_metadata(report.name)[0] if found is None else found
         if found is not None or report.namespace:
-            is_own = path == report.name or kind_of(found or {}) != "timeseries"
+            is_own = path == report.name or kind_of(found) != "timeseries"
             namespace = namespace_of(report.name) if report.namespace and is_own else _namespace_of(path, found)
             yield _entry(report.name, namespace, found, report)
     for path, metadata in described.values():
@@ -109,11 +109,8 @@ def _of_files(reports: Iterable[Report], names: Iterable[str], lists: dict[str, 
 
 def _metadata_of(listed: Listed) -> dict[str, Any] | None:
     """What the list of an archive says of a collection, None if that cannot be read."""
-    try:
-        metadata = json.loads(listed.metadata)
-    except (ValueError, RecursionError):
-        return None
-    return {"type": listed.kind, **metadata} if isinstance(metadata, dict) else None
+    metadata, _ = parsed(listed.metadata)
+    return None if metadata is None else {"type": listed.kind, **metadata}
 
 
 def _namespace_of(path: str, metadata: dict[str, Any] | None) -> Namespace:
@@ -123,7 +120,7 @@ def _namespace_of(path: str, metadata: dict[str, Any] | None) -> Namespace:
 
 def _entry(file: str, namespace: Namespace, metadata: dict[str, Any] | None, report: Report | None) -> Entry:
     """A collection by its metadata and the report of its dump, each of which may be missing."""
-    kind = kind_of(metadata or {})
+    kind = kind_of(metadata)
     if kind == "collection" and namespace.collection.startswith(_BUCKETS):
         kind = "timeseries"
     documents = size = None

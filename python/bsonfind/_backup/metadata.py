@@ -2,17 +2,16 @@
 
 from __future__ import annotations
 
-import json
 import os
 import re
 import stat
 from typing import Any
 
-from .._dumps.archive import Listed
+from .._dumps.archive import Listed, parsed
 from .._dumps.archive_frames import Namespace, joined_pieces
 from .._dumps.files import member_of
 from .._dumps.gzip import unpacked
-from .._errors import DumpError
+from .._errors import DumpError, why
 
 OPLOG = Namespace("", "oplog")
 _ENDING = re.compile(r"\.bson(\.gz)?$")
@@ -57,20 +56,7 @@ def fault_of_listed(listed: Listed) -> str | None:
     if not listed.metadata:
         is_bare = is_at_top(listed.namespace) or _BARE.match(f"{listed.namespace.collection}.bson")
         return None if is_bare else "none in the archive"
-    try:
-        metadata = json.loads(listed.metadata)
-    except (ValueError, RecursionError) as error:
-        return str(error)
-    return None if isinstance(metadata, dict) else "not a document"
-
-
-def kind_of(metadata: dict[str, Any]) -> str:
-    """What metadata is of: "view", "timeseries", "capped" or "collection". An old mongodump says it by the options alone."""
-    kind, options = metadata.get("type"), metadata.get("options")
-    keys = options if isinstance(options, dict) else {}
-    if kind == "view" or "viewOn" in keys:
-        return "view"
-    return "timeseries" if kind == "timeseries" or "timeseries" in keys else "capped" if keys.get("capped") else "collection"
+    return parsed(listed.metadata)[1]
 
 
 def stem_of_file(name: str) -> str:
@@ -107,9 +93,7 @@ def read_metadata_file(path: str) -> tuple[dict[str, Any] | None, str | None]:
             data = next(joined_pieces(unpacked([data]), _LONGEST_METADATA + 1))
         if len(data) > _LONGEST_METADATA:
             return None, f"{base}: more than {_LONGEST_METADATA} bytes"
-        metadata = json.loads(data)
-    except OSError as error:
-        return None, f"{base}: {error.strerror}"
-    except (DumpError, ValueError, RecursionError) as error:
-        return None, f"{base}: {error}"
-    return (metadata, None) if isinstance(metadata, dict) else (None, f"{base}: not a document")
+    except (DumpError, OSError) as error:
+        return None, f"{base}: {why(error)}"
+    metadata, wrong = parsed(data)
+    return metadata, wrong and f"{base}: {wrong}"

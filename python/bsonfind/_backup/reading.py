@@ -7,7 +7,7 @@ from collections import deque
 from contextlib import closing
 from typing import Callable, Iterable, List
 
-from .._dumps.checking import checking, faults_of, finish_check
+from .._dumps.checking import all_faults, checking
 from .._dumps.framing import LONGEST, inputs
 from .._dumps.passing import documents_taken
 from .._dumps.printing import Batches
@@ -85,11 +85,9 @@ class _Batch:
     def good(self, noting: Noting) -> list[bytes]:
         """Those without a fault, once the check has ended."""
         faulty = set()
-        with self.run as run:
-            for fault in faults_of(run):
-                faulty.add(fault.document)
-                noting.add(fault.moved(self._first, self._offset))
-            finish_check(run, self._count)
+        for fault in all_faults(self.run, self._count):
+            faulty.add(fault.document)
+            noting.add(fault.moved(self._first, self._offset))
         return [it for number, it in enumerate(self._documents) if number not in faulty] if faulty else self._documents
 
 

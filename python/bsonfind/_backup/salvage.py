@@ -7,14 +7,15 @@ from collections import deque
 from contextlib import ExitStack, nullcontext
 from typing import Callable, ContextManager, Generator, Iterator, NamedTuple, Union
 
+from .._dumps.checking import all_faults, checking
 from .._dumps.outputs import Output, refuse_names
 from .._dumps.sources import Source
 from .._errors import ArgumentError, DumpError
 from .._faults import Fault
 from .._names import File, name_of
-from .._run.processes import Group, Run, processors
+from .._run.processes import Dump, Group, Run, processors
 from .._run.wide import wide_program
-from .beginnings import Beginnings, Check
+from .beginnings import Beginnings
 from .window import Window
 
 # The bytes that are checked by one run, at first and after damage, and at most; and the documents at most.
@@ -111,9 +112,8 @@ class Salvaging:
 
     def __init__(self, pieces: Iterator[bytes], program: str, group: Group | None = None, most: int | None = None) -> None:
         """One run checks this many bytes at most."""
-        self._window = Window(pieces)
-        self._check = Check(program, group)
-        self._beginnings = Beginnings(self._window, self._check)
+        self._window, self._program, self._group = Window(pieces), program, group
+        self._beginnings = Beginnings(self._window, program, group)
         self._good = self._bad = 0
         self._left_out: list[LeftOut] = []
         # Documents that are being checked, how many runs do so at most, and the bytes that the next one checks.
@@ -160,7 +160,7 @@ class Salvaging:
             if not ends:
                 break
             data = self._window.part(start, ends[-1])
-            self._ahead.append(_Batch(start, ends, data, self._check.run([data])))
+            self._ahead.append(_Batch(start, ends, data, checking(Dump([data]), self._program, self._group)))
             self._window.drop(ends[-1])
             self._size = min(2 * self._size, self._most)
         return bool(self._ahead)
@@ -175,7 +175,7 @@ class Salvaging:
         """Documents by whether they have a fault; returns the place after them, or that of what a wrong length skips."""
         start, ends, data = batch.start, batch.ends, memoryview(batch.data)
         at, number, before = start, 0, self._good + self._bad + len(self._left_out)
-        faults = self._check.faults([batch.data], len(ends), batch.run)
+        faults = all_faults(batch.run, len(ends))
         if faults:
             # What is in and after a bad document is looked at.
             self._window.put_back(start, b"".join([batch.data, *(it.data for it in self._ahead)]))

@@ -6,7 +6,7 @@ An archive is read once, in memory of one piece of it. Nothing is looked at but 
 from __future__ import annotations
 
 import json
-from typing import Collection, Iterator, NamedTuple
+from typing import Any, Collection, Iterator, NamedTuple
 
 from .._errors import DumpError
 from .archive_frames import Namespace, Reader, bad, block_of, fields_of, joined_pieces, namespace_in, plain
@@ -86,7 +86,8 @@ class Archive:
                 raise bad(start, f"{namespace} is listed twice")
             known.add(namespace)
             metadata = str(fields["metadata"])
-            self.listed.append(Listed(namespace, metadata, str(fields["type"]) or _kind_of(metadata)))
+            # Of metadata that cannot be read whoever reports it says what is wrong.
+            self.listed.append(Listed(namespace, metadata, str(fields["type"]) or kind_of(parsed(metadata)[0])))
             start = self._reader.offset
 
     def blocks(self, only: Collection[Namespace] | None = None) -> Iterator[Documents | End]:
@@ -181,12 +182,20 @@ def why_none(listed: list[Listed], namespace: Namespace) -> str:
     return f"{namespace} is not in the archive"
 
 
-def _kind_of(metadata: str) -> str:
-    """Whether metadata is that of a view or a time series, which the list of an old mongodump does not say."""
+def parsed(metadata: str | bytes) -> tuple[dict[str, Any] | None, str | None]:
+    """The metadata of a text, or what is wrong with it."""
     try:
         found = json.loads(metadata)
-    except (ValueError, RecursionError):
-        return ""  # Whoever reports metadata says what is wrong with it.
-    options = found.get("options") if isinstance(found, dict) else None
+    except (ValueError, RecursionError) as error:
+        return None, str(error)
+    return (found, None) if isinstance(found, dict) else (None, "not a document")
+
+
+def kind_of(metadata: dict[str, Any] | None) -> str:
+    """What metadata is of: "view", "timeseries", "capped" or "collection". An old mongodump says it by the options alone."""
+    found = metadata or {}
+    kind, options = found.get("type"), found.get("options")
     keys = options if isinstance(options, dict) else {}
-    return "view" if "viewOn" in keys else "timeseries" if "timeseries" in keys else ""
+    if kind == "view" or "viewOn" in keys:
+        return "view"
+    return "timeseries" if kind == "timeseries" or "timeseries" in keys else "capped" if keys.get("capped") else "collection"

@@ -59,6 +59,14 @@ def finish_check(run: Run, wanted: int | None = None) -> int:
     return documents
 
 
+def all_faults(run: Run, documents: int) -> list[Fault]:
+    """The faults of this many documents, as a run of `check` finds them; once it has ended it is closed."""
+    with run:
+        faults = list(faults_of(run))
+        finish_check(run, documents)
+    return faults
+
+
 def checking(dump: Dump, program: str, group: Group | None = None) -> Run:
     """A run that checks some documents of all types."""
     return Run.over(dump, wide_program(program, group), "check", group=group)

@@ -6,6 +6,7 @@ import signal
 import tempfile
 import threading
 from array import array
+from contextlib import contextmanager
 from itertools import islice
 from typing import BinaryIO, Iterable, Iterator, Sequence
 
@@ -33,7 +34,10 @@ class Original:
     @classmethod
     def of_pieces(cls, pieces: Iterable[bytes]) -> Original:
         """Those of some bytes."""
-        return Spool(pieces).original()
+        with kept(pieces) as (file, passing):
+            for _ in passing:
+                pass
+        return cls(file)
 
     @property
     def dump(self) -> Dump:
@@ -71,37 +75,27 @@ class Original:
             self._file.close()
 
 
-class Spool:
-    """Bytes that can be read once, which are kept in a file without a name as they pass."""
+@contextmanager
+def kept(pieces: Iterable[bytes]) -> Iterator[tuple[BinaryIO, Iterator[bytes]]]:
+    """A file without a name, and the pieces, which are written to it as they pass. It is closed where something goes wrong meanwhile."""
+    file = temporary_file()
+    try:
+        yield file, _written(pieces, file)
+    except BaseException:
+        file.close()
+        raise
 
-    def __init__(self, pieces: Iterable[bytes]) -> None:
-        self._file = temporary_file()
-        self.pieces = self._kept(pieces)
 
-    def _kept(self, pieces: Iterable[bytes]) -> Iterator[bytes]:
-        for piece in pieces:
-            rest = memoryview(piece)
-            while rest:
-                try:
-                    # A disk that is full takes a part of it.
-                    rest = rest[self._file.write(rest) :]
-                except OSError as error:
-                    raise no_space() from error
-            yield piece
-
-    def original(self) -> Original:
-        """The documents, once all is read."""
-        try:
-            for _ in self.pieces:
-                pass
-        except BaseException:
-            self._file.close()
-            raise
-        return Original(self._file)
-
-    def close(self) -> None:
-        """Closes the file."""
-        self._file.close()
+def _written(pieces: Iterable[bytes], file: BinaryIO) -> Iterator[bytes]:
+    for piece in pieces:
+        rest = memoryview(piece)
+        while rest:
+            try:
+                # A disk that is full takes a part of it.
+                rest = rest[file.write(rest) :]
+            except OSError as error:
+                raise no_space() from error
+        yield piece
 
 
 def temporary_file() -> BinaryIO:

@@ -8,10 +8,10 @@ import os
 import re
 import subprocess
 import threading
-from contextlib import contextmanager
+from contextlib import ExitStack, contextmanager
 from typing import IO, Any, BinaryIO, Callable, Iterable, Iterator, NamedTuple, Sequence
 
-from .._errors import ArgumentError, BsonfindError, OtherProcessError, ProgramError, TimedOutError
+from .._errors import ArgumentError, BsonfindError, OtherProcessError, ProgramError, TimedOutError, why
 from .messages import error_of, own_text
 from .program import located
 
@@ -97,7 +97,7 @@ class Group:
 def start_error(program: object, error: OSError | TypeError | ValueError) -> BsonfindError:
     """Why a program cannot be started; a word that no program takes is an argument of the caller."""
     kind = ProgramError if isinstance(error, OSError) else ArgumentError
-    return kind(f"cannot start {program}: {getattr(error, 'strerror', None) or error}")
+    return kind(f"cannot start {program}: {why(error)}")
 
 
 def file_in_memory(program: object) -> IO[bytes]:
@@ -161,10 +161,19 @@ class Run:
         """
         run = cls.__new__(cls)
         streams = {"stdin": subprocess.PIPE, "stdout": subprocess.PIPE, "bufsize": _BUFFER, "start_new_session": True}
-        with Descriptor(dump) as descriptor:
-            run._start([program, "serve", descriptor.word, *options], group, {**streams, "pass_fds": descriptor.passed})
+        with ExitStack() as ours:
+            if dump.file is not None:
+                read = dump.file.fileno()
+            else:
+                read, write = os.pipe()
+                ours.callback(os.close, read)
+                pipe = ours.enter_context(open(write, "wb"))
+            # What is passed has a number above those of the standard streams.
+            passed = fcntl.fcntl(read, fcntl.F_DUPFD_CLOEXEC, 3)
+            ours.callback(os.close, passed)
+            run._start([program, "serve", f"/dev/fd/{passed}", *options], group, {**streams, "pass_fds": [passed]})
             if dump.pieces is not None:
-                run._feed(dump.pieces, descriptor.take_pipe())
+                run._feed(dump.pieces, open(os.dup(pipe.fileno()), "wb"))
         return run
 
     def _start(self, words: Sequence[str], group: Group | None, streams: dict[str, Any]) -> None:
@@ -261,43 +270,6 @@ def check_owner(owner: int) -> None:
     """Refuses a call in another process than the one with this number, such as after a fork: both would read from one pipe."""
     if os.getpid() != owner:
         raise OtherProcessError(f"opened in process {owner}, used in process {os.getpid()}: open it again in each process")
-
-
-class Descriptor:
-    """The word that names a dump to `serve`, and the descriptor that goes with it."""
-
-    def __init__(self, dump: Dump) -> None:
-        self._dump = dump
-        self._pipe: IO[bytes] | None = None
-        self.word = os.devnull
-        self.passed: tuple[int, ...] = ()
-
-    def __enter__(self) -> Descriptor:
-        if self._dump.file is not None:
-            self._pass(self._dump.file.fileno())
-        elif self._dump.pieces is not None:
-            read, write = os.pipe()
-            self._pipe = open(write, "wb")
-            with open(read, "rb"):
-                self._pass(read)
-        return self
-
-    def _pass(self, descriptor: int) -> None:
-        """Passes a copy of a descriptor, with a number above those of the standard streams."""
-        copy = fcntl.fcntl(descriptor, fcntl.F_DUPFD_CLOEXEC, 3)
-        self.word, self.passed = f"/dev/fd/{copy}", (copy,)
-
-    def take_pipe(self) -> IO[bytes]:
-        """The pipe to the program, which the caller closes."""
-        pipe, self._pipe = self._pipe, None
-        assert pipe is not None
-        return pipe
-
-    def __exit__(self, *_: object) -> None:
-        for descriptor in self.passed:
-            os.close(descriptor)
-        if self._pipe:
-            close(self._pipe)
 
 
 def close(pipe: IO[bytes]) -> None:
