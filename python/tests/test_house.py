@@ -47,7 +47,7 @@ PLACES = {
     "_dumps/checking.Checking.faults": "moves the places of faults of an input to those in the dump, and adds up the counts",
     "_dumps/checking.faults_of": "reads the lines of faults",
     "_dumps/checking.finish_check": "reads the line of the count; compares it with that of what was given",
-    "_dumps/passing.each_document": "raises the first fault; adds up the counts of inputs",
+    "_dumps/checking.each_document": "raises the first fault; adds up the counts of inputs",
     "_dumps/printing.finish_dump": "reads the line of the count",
     "_dumps/printing.lines_of_documents": "compares the count with that of what was given",
     "_dumps/printing.pack_lines": "waits for the line of the count",

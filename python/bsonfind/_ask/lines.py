@@ -7,7 +7,7 @@ from contextlib import ExitStack, contextmanager
 from io import BufferedReader
 from typing import Any, Callable, Iterator, NamedTuple, Sequence
 
-from .._dumps.passing import documents_taken
+from .._dumps.framing import documents_taken
 from .._dumps.printing import Batches, lines_of
 from .._dumps.sources import Source
 from .._errors import ArgumentError, ProgramError

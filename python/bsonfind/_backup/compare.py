@@ -7,9 +7,9 @@ from collections import Counter
 from hashlib import blake2b
 from typing import Callable, Iterator, NamedTuple, Sequence
 
+from .._dumps.checking import each_document
 from .._dumps.elements import value_at
 from .._dumps.files import is_whole_archive
-from .._dumps.passing import each_document
 from .._dumps.printing import texts_of_values
 from .._dumps.sources import Source
 from .._errors import BsonfindError, why

@@ -10,9 +10,10 @@ import re
 from decimal import Decimal
 from typing import Callable
 
+from .._dumps.checking import each_document
 from .._dumps.elements import value_at
+from .._dumps.framing import documents_taken
 from .._dumps.numbers import is_finite, number_of
-from .._dumps.passing import documents_taken, each_document
 from .._dumps.printing import lines_of_documents, pack_lines
 from .._dumps.sources import Source
 from .._errors import BsonfindError, DumpError, ProgramError

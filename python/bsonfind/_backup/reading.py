@@ -8,8 +8,7 @@ from contextlib import closing
 from typing import Callable, Iterable, List
 
 from .._dumps.checking import all_faults, checking
-from .._dumps.framing import LONGEST, inputs
-from .._dumps.passing import documents_taken
+from .._dumps.framing import LONGEST, documents_taken, inputs
 from .._dumps.printing import Batches
 from .._dumps.sources import Source, up_to_error
 from .._errors import DumpError, is_finding, why

@@ -3,12 +3,13 @@
 from __future__ import annotations
 
 import re
-from typing import Iterable, Iterator
+from typing import Callable, Iterable, Iterator
 
-from .._errors import ProgramError
+from .._errors import DumpError, ProgramError
 from .._faults import Fault, read_fault
 from .._run.processes import Dump, Group, Run
 from .._run.wide import wide_program
+from .framing import documents_taken, inputs
 from .sources import Source
 
 _COUNTED = re.compile(r"(\d+) documents, (\d+) faulty\n")
@@ -70,3 +71,17 @@ def all_faults(run: Run, documents: int) -> list[Fault]:
 def checking(dump: Dump, program: str, group: Group | None = None) -> Run:
     """A run that checks some documents of all types."""
     return Run.over(dump, wide_program(program, group), "check", group=group)
+
+
+def each_document(source: Source, program: str, take: Callable[[bytes], None], group: Group | None = None) -> int:
+    """Has the documents of a dump checked as they pass on, and gives their number; the first fault is raised, with its place.
+
+    A document is passed on before the check has read it.
+    """
+    documents = 0
+    for offset, first, pieces in inputs(source.pieces()):
+        with checking(Dump(documents_taken(pieces, take)), program, group) as run:
+            for fault in faults_of(run):
+                raise DumpError.at(fault.moved(first, offset))
+            documents = first + finish_check(run)
+    return documents

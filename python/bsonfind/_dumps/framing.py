@@ -4,7 +4,7 @@ from __future__ import annotations
 
 import os
 import struct
-from typing import BinaryIO, Iterable, Iterator
+from typing import BinaryIO, Callable, Iterable, Iterator
 
 from .._errors import DumpError
 from .._faults import Fault
@@ -53,6 +53,23 @@ def ends_in(pieces: Iterable[bytes]) -> Iterator[int]:
         raise bad(number, start, "bad length")
     if at < seen:
         raise bad(number, at, "length cut short")
+
+
+def documents_taken(pieces: Iterable[bytes], take: Callable[[bytes], None]) -> Iterator[bytes]:
+    """The pieces as they pass, whose documents are taken. After a wrong length, which is a fault, none is."""
+    rest, is_wrong = b"", False
+    for piece in pieces:
+        data = rest + piece if rest else piece
+        at, size = 0, len(data)
+        while not is_wrong and at + 4 <= size:
+            (length,) = _length_at(data, at)
+            is_wrong = not SHORTEST <= length <= LONGEST
+            if is_wrong or at + length > size:
+                break
+            take(data[at : at + length])
+            at += length
+        rest = b"" if is_wrong else data[at:]
+        yield piece
 
 
 def inputs(pieces: Iterable[bytes], most: int | None = None) -> Iterator[tuple[int, int, Iterator[bytes]]]:
