@@ -23,7 +23,7 @@ from .salvage import Copied, Salvaging
 from .search import Found, Match, Search, Wanted
 from .split import split
 from .watching import Watch
-from .workers import Workers
+from .workers import Workers, begun_ahead
 
 # How many files are begun at once at most, and how many bytes one search has.
 _MOST_AHEAD, _MOST = 4, 1 << 20
@@ -81,15 +81,8 @@ def grep_dumps(
     wide_program(program)
     with watch(len(dumps), sum(it.size or 0 for it in dumps)) as progress:
         grep = _Grep(wanted, jobs, program, progress)
-        ahead: deque[Iterator[list[Item]]] = deque()
         try:
-            for dump in dumps:
-                items = grep.items(dump)
-                ahead.append(chain([next(items, [])], items))  # The check of the dump is begun.
-                if len(ahead) >= min(jobs, _MOST_AHEAD):
-                    yield from chain.from_iterable(ahead.popleft())
-            while ahead:
-                yield from chain.from_iterable(ahead.popleft())
+            yield from chain.from_iterable(begun_ahead(map(grep.items, dumps), min(jobs, _MOST_AHEAD)))
         finally:
             grep.end()
 

@@ -2,8 +2,6 @@
 
 from __future__ import annotations
 
-from collections import deque
-from itertools import chain
 from typing import Iterator, NamedTuple, Sequence
 
 from .._ask.lines import counted, try_request
@@ -14,6 +12,7 @@ from .._errors import BsonfindError, DumpError
 from .._run.processes import Group, Run
 from .._run.wide import wide_program
 from .backups import Dump
+from .workers import begun_ahead
 
 # What one run holds in memory of a larger dump.
 MOST_HELD = 1 << 27
@@ -31,15 +30,8 @@ def query_dumps(dumps: Sequence[Dump], request: Request, jobs: int, program: str
     """The documents of dumps that match, in the order of the dumps; this many are asked at once. A refused request is raised."""
     try_request(request, program)
     group = Group()
-    ahead: deque[Iterator[Found]] = deque()
     try:
-        for dump in dumps:
-            answer = _answer(dump, request, program, group)
-            ahead.append(chain([next(answer)], answer))  # Its first run is started, whose answer waits until it is read.
-            if len(ahead) >= jobs:
-                yield from ahead.popleft()
-        while ahead:
-            yield from ahead.popleft()
+        yield from begun_ahead((_answer(dump, request, program, group) for dump in dumps), jobs)
     finally:
         group.end()
 

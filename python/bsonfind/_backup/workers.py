@@ -10,7 +10,8 @@ import threading
 from collections import deque
 from concurrent.futures import Future, ThreadPoolExecutor
 from contextlib import AbstractContextManager
-from typing import Any, Callable, Generic, List, TypeVar
+from itertools import chain, islice
+from typing import Any, Callable, Generic, Iterable, Iterator, List, TypeVar
 
 from .._errors import BsonfindError, ProgramError
 from .._run.processes import Group, Run, close, processors
@@ -19,6 +20,16 @@ from . import serving
 T = TypeVar("T")
 # A process takes the package from where this one has it.
 _CODE = f"import pickle, sys; sys.path[:] = pickle.load(sys.stdin.buffer); from {serving.__name__} import serve; serve()"
+
+
+def begun_ahead(streams: Iterable[Iterator[T]], most: int) -> Iterator[T]:
+    """What streams give, one after the other. This many are begun at once: each up to its first item, which waits until it is read."""
+    begun: deque[Iterator[T]] = deque()
+    for stream in streams:
+        begun.append(chain(list(islice(stream, 1)), stream))
+        if len(begun) >= most:
+            yield from begun.popleft()
+    yield from chain.from_iterable(begun)
 
 
 class Workers:
