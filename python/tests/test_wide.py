@@ -66,7 +66,7 @@ class Commands(Room):
                 self.assertEqual(told, (1, [*PEOPLE_LINES, LINES[0], LINES[0]], f"{name}: {line}\n502 objects found\n"))
 
     def test_deepest_and_longest_documents(self) -> None:
-        """Doubles at the end of 200 levels, and of 16,793,600 bytes, of which 24 are not the text: no command stops at them."""
+        """Doubles at the end of 200 levels, and of 16,793,600 bytes, of which 24 are not the text. Other commands take them too."""
         deep, line = DOUBLE, LINES[0]
         for _ in range(199):
             deep, line = (len(deep) + 8).to_bytes(4, "little") + b"\x03a\0" + deep + b"\0", b'{"a":' + line + b"}"
@@ -80,10 +80,9 @@ class Commands(Room):
                 self.assertEqual(self.run_command("check", word, stdin=stdin), (0, [], f"{len(lines)} documents, 0 faulty\n"))
                 status, found, said = self.run_command("find", word, stdin=stdin)
                 self.assertTrue((status, found) == (0, lines) and said.startswith(f"{len(lines)} documents, end"), (word, said))
-            path = str(self.file(data))
-            self.assertEqual(self.run_command("compare", path, path)[:2], (0, []))
-            status, found, said = self.run_command("query", path)
-            self.assertTrue((status, [it.partition(b"\t")[2] for it in found]) == (0, lines), said)
+        path = str(self.file(DOUBLE + deep))
+        self.assertEqual(self.run_command("compare", path, path)[0], 0)
+        self.assertEqual([it.partition(b"\t")[2] for it in self.run_command("query", path)[1]], [LINES[0], line])
 
     def test_names(self) -> None:
         """What is reported of a file that is not there, or no file, is what the program reports."""
