@@ -263,9 +263,6 @@ for name in bsonfind bsonwide; do
 	printf '{"find":\n{"find":{}}\n' | (in_stack 120 "$root/$name" serve five.bson)
 	expect "$name: a bad command in 120 KiB of stack" 0 "$not_json
 $first" ''
-	printf '{"a":{"$oid":"0"}}\n' | (in_stack 120 "$root/$name" pack -)
-	expect "$name: a bad line in 120 KiB of stack" 1 '' "$name: line 1, byte 5: bad wrapper
-0 objects packed"
 done
 double='{"a":{"$numberDouble":"1.5"}}'
 echo "$double" | "$root/bsonwide" pack - >double.bson 2>pack_err
