@@ -58,7 +58,8 @@ pub trait LinePacker {
 }
 
 /// Reads the whole input, and writes the BSON of its lines' documents, up to the first line that is not packed.
-// Not inlined: a packer takes 16 KiB of the stack, which the other commands need not have.
+///
+/// It is not inlined: a packer takes 16 KiB of the stack, which the other commands do not need.
 #[inline(never)]
 pub fn pack_by<P: LinePacker + Drop, R: Input, O: Output, E: Output>(
     alloc: Global,

@@ -32,7 +32,8 @@ use Rattle.bd_extjson_text.proofs.JsonStringLemmas.{escaped-plain, escaped-digit
 use Rattle.bd_extjson.proofs.ReadBackLemmas.{document_back}
 use Rattle.bd_extjson_pack.specs.Packable.{plain, IsPackable}
 use Rattle.bd_extjson_pack.specs.declared.canonical_line.TheConstants.{MEANT}
-use Rattle.bd_extjson_pack.specs.Canonical.{IsCanonical, AreCanonical, AreCanonicalFields}
+use Rattle.bd_extjson_pack.specs.Canonical.{IsCanonical}
+use Rattle.bd_extjson_pack.specs.inside.Packable.{AreCanonical, AreCanonicalFields}
 use Rattle.hex.specs.{Hex.encode_lower, Hex.decode_sized, declared.FromHexError.FromHexError}
 use Rattle.hex.proofs.HexLemmas.{decode_of-ok, decode_sized-ok, decode_sized-twice}
 use Rattle.bd_extjson_wrapper.proofs.WholeNumberLemmas.{digits_model}
@@ -154,6 +155,7 @@ abbrev pub IsReadTo : ℕ → List ℕ → List (List ℕ) → List ℕ → Opti
 IsReadTo bracket whole pieces rest None = whole ≡ bracket ∷ (join_with_byte 44 pieces ++ rest)
 IsReadTo bracket whole pieces rest (Some at) = whole ≡ bracket ∷ (led pieces ++ at.now)
 
+-- one more piece, and the comma after it, if there is one
 pub goes_on : (bracket : ℕ) (whole : List ℕ) (pieces : List (List ℕ)) (piece at rest : List ℕ) (next : Option (Bor (List ℕ)))
     → whole ≡ bracket ∷ (led pieces ++ at) → at ≡ piece ++ rest → IfSome next (λ n. rest ≡ 44 ∷ n.now)
     → IsReadTo bracket whole (pieces ++ piece ∷ []) rest next
@@ -165,6 +167,7 @@ pub ended_at : (bracket last : ℕ) (whole : List ℕ) (pieces : List (List ℕ)
     → whole ≡ bracket ∷ ((join_with_byte 44 pieces ++ last ∷ []) ++ rest)
 ended_at bracket last whole pieces old rest read e = rw (read, e) (simp append_assoc)
 
+-- what follows a comma is shorter
 pub within_rest : (rest : List ℕ) (next : Option (Bor (List ℕ))) → IfSome next (λ n. rest ≡ 44 ∷ n.now) → IfSome next (λ n. length n.now ≤ length rest)
 within_rest rest None comma = tt
 within_rest rest (Some n) comma = omega (arith, ap (λ x. length x) comma)

@@ -1,1 +1,2 @@
+pub mod Packable
 pub mod Writes

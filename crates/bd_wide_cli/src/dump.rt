@@ -20,7 +20,8 @@ use std::alloc::Global;
 
 /// Prints each document of a file in the layout of these options; or reports that their fields are refused, and does not read the
 /// file.
-// Not inlined, so that the other commands need not have its stack.
+///
+/// It is not inlined, so that the other commands do not need its stack.
 #[inline(never)]
 pub(crate) fn dump<R: Input, O: Output, E: Output>(
     alloc: Global,

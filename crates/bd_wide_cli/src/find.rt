@@ -18,7 +18,8 @@ use std::alloc::Global;
 
 /// Prints the documents that a query with this text and its options request, in this form, their texts in the layout of these options;
 /// or reports that the fields of the layout are refused, and does not read the file.
-// Not inlined, so that the other commands need not have its stack.
+///
+/// It is not inlined, so that the other commands do not need its stack.
 #[inline(never)]
 pub(crate) fn find<R: Input, O: Output, E: Output>(
     alloc: Global,

@@ -1,9 +1,9 @@
 -- Canonical text of documents of all types, read from its start and packed.
 use Rattle.std.proofs.Common.{◌≡◌, ◌<◌, ◌≤◌, ◌+◌, ◌-◌, ℕ, zero, suc, List, [], ◌∷◌, ◌++◌, length, length-append, append_assoc, append-nil, refl, sym, ap, ap₂, ◌∙◌, ◌==◌, arith, decimal, inl, inr, subst, ◌||◌}
-use Rattle.std.proofs.Common.{true, false, None, Some}
+use Rattle.std.proofs.Common.{true, false, true≢false, ◌≢◌, None, Some}
 use Rattle.std.proofs.lemmas.Str.{IsUtf8-from_ascii}
 use Rattle.std.specs.Prelude.{codes, IsUtf8}
-use Rattle.std.specs.List.{list_any}
+use Rattle.std.specs.List.{AllByRecursion, list_any}
 use Rattle.std.proofs.{lemmas.Bool.or_from, lemmas.Bool.or_parts, lemmas.Bool.Decides.nat_tests}
 use Rattle.bd_value.specs.{Limits.longest_document, Limits.most_levels, View.kind_of}
 use Rattle.bd_value.specs.Fits.{ScalarFits, has_zero, zero_in_scalar}
@@ -12,7 +12,7 @@ use Rattle.bd_value.specs.Tree.{Scalar, Tree, Doc, Items, Fields, no_items, item
 use Rattle.bd_bson_view.specs.Unique.{number_length}
 use Rattle.bd_bson_view.specs.Spelling.{IsScalar, NumberKind, as_double, as_decimal128, element, framed, long, number, scalar_bytes, string, type_byte, written_typed}
 use Rattle.bd_bson_write.specs.TreeBytes.{SpellsPlainly, bytes_of}
-use Rattle.bd_bson_write.proofs.WritingLemmas.{element_size, is_name, plainly_spells}
+use Rattle.bd_bson_write.proofs.WritingLemmas.{element_size, plainly_spells}
 use Rattle.bd_extjson.specs.Laws.{IsPlainFirst}
 use Rattle.bd_extjson_text.specs.Text.{escaped, escape_byte, member, needs_escape, object, quoted, scalar_text, text}
 use Rattle.bd_extjson_wrapper.specs.Wrapper.{wrapper_of}
@@ -228,6 +228,12 @@ scalar_spelled s fits none short =
     let value = all.spells.1.3 in
     (value.0, refl)
 
+no_zeros : (bytes : List ℕ) → has_zero bytes ≡ false → AllByRecursion (λ b. b ≢ 0) bytes
+no_zeros [] is = tt
+no_zeros (b ∷ bytes) is =
+    let n = or_parts (b == 0) (has_zero bytes) is in
+    ((λ e. true≢false (sym (ap (λ x. x == 0) e) ∙ n.0)), no_zeros bytes n.1)
+
 -- What is written for a value is these bytes after its type byte and its name.
 abbrev IsWrittenAs : Tree → ℕ → List ℕ → Type 0
 IsWrittenAs t type bytes = (v : List ℕ) × IsWritten t v × ((name : List ℕ) → written_typed t name v ≡ typed type name bytes)
@@ -270,7 +276,7 @@ mutual
       let size : length body ≡ (2 + (length name + length line.2)) + length line.4 =
       omega (arith, ap (λ (x : List ℕ). length x) line.9, length-append (typed line.1 name line.2) line.4, length-append name (0 ∷ line.2)) in
       let v = line_written n t line.0 line.1 line.2 line.6 (omega (arith, size, short)) in
-      (v.0, line.4, is_name name line.5.0 line.5.1, v.1, fields_written n fs line.3 line.4 line.7 (omega (arith, size, short)), line.9 ∙ ap (λ (e : List ℕ). e ++ line.4) (sym (v.2 name)))
+      (v.0, line.4, (line.5.0, no_zeros name line.5.1), v.1, fields_written n fs line.3 line.4 line.7 (omega (arith, size, short)), line.9 ∙ ap (λ (e : List ℕ). e ++ line.4) (sym (v.2 name)))
 
   items_written : (n index : ℕ) (ts : Items) (values : List (List ℕ)) (body : List ℕ) → AreItemLines n index ts values body → length body + 5 ≤ longest_document → AreItemsWritten index ts body
   items_written n index no_items values body line short = line.1
@@ -288,7 +294,7 @@ packs line [] [] new body d members is none are empty put short =
     let fs = fields_of d in
     let whole : line ≡ object members = is ∙ append-nil (object members) in
     let size : length body + 5 ≤ longest_document = omega (arith, short, ap (λ (x : List ℕ). length x) put, framed_length body) in
-    let shown : IsPrinted most_levels (doc fs) line = (first_plain (most_levels - 1) fs members body are, members, fields_printed (most_levels - 1) fs members body are, whole) in
-    printed_packed fs new line shown (body, fields_written (most_levels - 1) fs members body are size, put) short
+    let printed : IsPrinted most_levels (doc fs) line = (first_plain (most_levels - 1) fs members body are, members, fields_printed (most_levels - 1) fs members body are, whole) in
+    printed_packed fs new line printed (body, fields_written (most_levels - 1) fs members body are size, put) short
 packs line rest (x ∷ old) new body d members is none are empty put short = absurd (omega (arith, empty))
 packs line (x ∷ rest) old new body d members is none are empty put short = absurd (omega (arith, none))

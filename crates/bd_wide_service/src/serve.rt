@@ -27,7 +27,7 @@ use std::alloc::Global;
 /// have doubles and decimal128 over any dump.
 ///
 /// It takes the memory of the dump; if it is served by value, also that of a copy, and of each distinct number.
-// Not inlined, so that the other commands need not have its stack.
+/// It is not inlined, so that the other commands do not need its stack.
 #[inline(never)]
 pub fn serve<F: Input, C: Input, O: Output, E: Output>(
     alloc: Global,

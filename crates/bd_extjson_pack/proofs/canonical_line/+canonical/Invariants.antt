@@ -6,7 +6,7 @@ use Rattle.bd_value.specs.Tree.{Tree, Doc, fields_of, items_of}
 use Rattle.bd_bson_view.specs.Spelling.{number}
 use Rattle.bd_bson_write.specs.TreeBytes.{fields_bytes, items_bytes}
 use Rattle.bd_extjson_text.specs.Text.{items_text, fields_text}
-use Rattle.bd_extjson_pack.specs.Canonical.{AreCanonical, AreCanonicalFields}
+use Rattle.bd_extjson_pack.specs.inside.Packable.{AreCanonical, AreCanonicalFields}
 use Rattle.bd_extjson_pack.proofs.CanonicalLemmas.{IsReadTo}
 use Rattle.bd_extjson_pack.proofs.canonical_line.+canonical.Given as goal
 
