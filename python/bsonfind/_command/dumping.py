@@ -42,7 +42,7 @@ class Dumping:
                         documents += error.fault.document if error.fault else 0
                         raise error.moved(part.first, part.offset) from None
                 if not self._is_begun:
-                    self._print(Dump(), console)  # What is before the documents is printed if there is none.
+                    self._print(Dump(), console)  # What is before the documents comes also without any.
             except DumpError as error:
                 if not error.is_finding:
                     raise
