@@ -222,6 +222,10 @@ class Layouts(Room):
                 status, out, told = run_of_bytes("dump", *names[:1], *words, *names[1:])
                 self.assertEqual((status, out), (0, laid_out(documents, **layout)), (names, words))
                 self.assertEqual(len(told.splitlines()), len(names))
+
+    def test_no_documents(self) -> None:
+        """What is before the first document and after the last one is printed."""
+        for words, layout in LAYOUTS:
             for word, stdin in self.forms(b""):
                 self.assertEqual(run_of_bytes("dump", word, *words, stdin=stdin), (0, laid_out([], **layout), "0 objects found\n"), (word, words))
                 self.assertEqual(run_of_bytes("find", word, *words, stdin=stdin), (0, laid_out([], **layout), "0 documents, end\n"), (word, words))
