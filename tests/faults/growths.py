@@ -242,7 +242,7 @@ def wide_runs(failing: Failing) -> list[Run]:
         Run("find, how many and bytes", ["find", "-", "--count", "--bson"], FIVE_DUMP, [], USAGE, 2),
         Run("find, a type of numbers", ["find", "-", "--query", '{"d":{"$type":"double"}}'], b"".join(numbers), number_lines[:1], counted(1, "end", 0, CLASSED, query='{"d":{"$type":"long"}}')),
         Run("find, three types of numbers", ["find", "-", "--query", '{"d":{"$type":"double"},"e":{"$type":"decimal"}}'], DOUBLE, [], f"{NAME}: query: the types of numbers are not told apart here\n", 1),
-        Run("find, a bad number", ["find", "-", "--query", '{"d":{"$numberDouble":"x"}}'], DOUBLE, [], f"{NAME}: query: byte 5: bad wrapper\n", 1),
+        Run("find, a bad number", ["find", "-", "--query", '{"d":{"$numberDouble":"x"}}'], DOUBLE, [], f'{NAME}: query: byte 5: bad wrapper; write {{"$numberDouble":".."}}\n', 1),
         Run("find, a bad dump", ["find", "-", "--query", '{"d":1.5}'], DOUBLE + BAD, [], f'{NAME}: document 1, byte 40, path "a.0.1": bad boolean\n', 1),
         talk("a talk", "several.bson", TALK),
         talk("a talk by value", "numbers.bson", by_value()),

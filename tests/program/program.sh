@@ -256,12 +256,13 @@ in_stack() {
 expect 'find in 120 KiB of stack' 0 "$int32" "$(told 1 end int32.bson 0 --query '{"a":1}' --sort '{"a":1}')"
 echo '{"find":{}}' | (in_stack 120 "$program" serve five.bson)
 expect 'serve in 120 KiB of stack' 0 "$first" ''
+# What the system gives at the start is 132 KiB.
 not_json='{"ok":false,"layer":"json","number":{"$numberInt":"1"},"text":"not JSON","at":{"$numberLong":"8"}}'
 for name in bsonfind bsonwide; do
-	(in_stack 120 "$root/$name" find - --query '{"a":') <int32.bson
-	expect "$name: a bad query in 120 KiB of stack" 1 '' "$name: query: byte 5: not JSON"
-	printf '{"find":\n{"find":{}}\n' | (in_stack 120 "$root/$name" serve five.bson)
-	expect "$name: a bad command in 120 KiB of stack" 0 "$not_json
+	(in_stack 132 "$root/$name" find - --query '{"a":') <int32.bson
+	expect "$name: a bad query in 132 KiB of stack" 1 '' "$name: query: byte 5: not JSON"
+	printf '{"find":\n{"find":{}}\n' | (in_stack 132 "$root/$name" serve five.bson)
+	expect "$name: a bad command in 132 KiB of stack" 0 "$not_json
 $first" ''
 done
 double='{"a":{"$numberDouble":"1.5"}}'
@@ -269,8 +270,8 @@ echo "$double" | "$root/bsonwide" pack - >double.bson 2>pack_err
 (in_stack 120 "$root/bsonwide" find - --query '{"a":{"$gt":1}}' --sort '{"a":1}' --bson) <double.bson
 : >err # its token is in tests/program/tokens.txt
 expect 'bsonwide: find by value in 120 KiB of stack' 0 @double.bson ''
-echo '{"find":{"a":1.5},"sort":{"a":1}}' | (in_stack 120 "$root/bsonwide" serve double.bson)
-expect 'bsonwide: serve by value in 120 KiB of stack' 0 "$first" ''
+echo '{"find":{"a":1.5},"sort":{"a":1}}' | (in_stack 132 "$root/bsonwide" serve double.bson)
+expect 'bsonwide: serve by value in 132 KiB of stack' 0 "$first" ''
 
 cp "$shop.bson" some.bson
 doublings=6
