@@ -62,6 +62,7 @@ complete -c bsonwide -n 'test (commandline -opc)[-1] = --jsonFormat' -a 'canonic
 complete -c bsonwide -n '__bsonwide_needs serve byValue' -l byValue -d 'read doubles and decimal128 over any dump'
 complete -c bsonwide -n '__bsonwide_needs find query; and __bsonwide_needs find queryFile' -l query -x -d 'the query, as {"age":{"$gte":18}}'
 complete -c bsonwide -n '__bsonwide_needs find query; and __bsonwide_needs find queryFile' -l queryFile -r -F -d 'the file of the query'
+complete -c bsonwide -n 'test (commandline -opc)[-1] = --queryFile' -F
 complete -c bsonwide -n 'test (commandline -opc)[-1] = --queryFile' -a - -d 'standard input'
 complete -c bsonwide -n '__bsonwide_needs find sort' -l sort -x -d 'the sort, as {"age":-1}'
 complete -c bsonwide -n '__bsonwide_needs find skip' -l skip -x -d 'pass over N documents'
