@@ -1,4 +1,4 @@
-"""Tests of the words of `dump` and `find` that say how documents are printed, over each form of a dump. What is wanted comes from Python's
+"""Tests of the words of `dump` and `find` that say how documents are printed, over each form of a dump. Expected values come from Python's
 `json` and `csv` over a model of the documents."""
 
 import csv
