@@ -2,12 +2,12 @@
 """Compares `bsonwide find` over random dumps of all types with a model: whole answers, by an index, by pages, and over damaged dumps; as
 lines, as bytes, and how many.
 
-    tests/wide/finds.py [PROGRAM [DUMPS [SEED]]]
+    tests/wide/finds.py [PROGRAM [DUMPS [SEED [REQUESTS]]]]
 
-The program is `bsonwide`. The model compares all numbers exactly, as MongoDB does. What is found must be the lines of `bsonwide dump` at
-the places of the model's answer, in each layout, with `--bson` the bytes of the dump at these places, and with `--count` how many they
-are; standard error and the status stay. A query in a file has the answer of the same in an argument. A query is refused for its types only
-where its `$type`s split the four types of numbers into more than two classes.
+The program is `bsonwide`. Each dump has 20 requests, or REQUESTS. The model compares all numbers exactly, as MongoDB does. What is found
+must be the lines of `bsonwide dump` at the places of the model's answer, in each layout, with `--bson` the bytes of the dump at these
+places, and with `--count` how many they are; standard error and the status stay. A query in a file has the answer of the same in an
+argument. A query is refused for its types only where its `$type`s split the four types of numbers into more than two classes.
 """
 
 import csv
@@ -29,7 +29,7 @@ from questions import WideInputs, more_classes
 PROGRAM = str(Path(sys.argv[1]).resolve()) if len(sys.argv) > 1 else str(BUILT.with_name("bsonwide"))
 DUMPS = int(sys.argv[2]) if len(sys.argv) > 2 else 40
 SEED = int(sys.argv[3]) if len(sys.argv) > 3 else 75
-REQUESTS = 20
+REQUESTS = int(sys.argv[4]) if len(sys.argv) > 4 else 20
 DAMAGES = 300
 
 TYPES = "bsonwide: query: the types of numbers are not told apart here\n"
