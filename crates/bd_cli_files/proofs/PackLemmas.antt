@@ -156,14 +156,6 @@ module _ (form : Form) (line : List ℕ) (lines : List (List ℕ)) where
   before_rest : (rest : List (List ℕ)) → more ++ rest ≡ lines ++ line ∷ rest
   before_rest rest = append_assoc lines (line ∷ []) rest
 
-  -- after a bad line it is not read
-  pub after_bad : (ds : List form.Document) (bad : BadLine) → PacksFirst form lines ds (Some bad) → PacksFirst form more ds (Some bad)
-  after_bad ds bad first rest = rw (before_rest rest) (first (line ∷ rest))
-
-  pub packs_blank : (ds : List form.Document) → IsTrue (is_empty_line line) → PacksFirst form lines ds None → PacksFirst form more ds None
-  packs_blank ds blank first rest es bad p =
-      let q = rw one_more at p in rw (before_rest rest) (first (line ∷ rest) es bad (inl (blank, q)))
-
   pub packs_one : (ds : List form.Document) (d : form.Document) → IsFalse (is_empty_line line) → form.IsPackable line d → PacksFirst form lines ds None → PacksFirst form more (ds ++ d ∷ []) None
   packs_one ds d full is first rest es bad p =
       let q = rw one_more at p in

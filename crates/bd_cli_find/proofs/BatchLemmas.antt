@@ -185,9 +185,6 @@ given_is s id n c size b most fits there r =
     let g : gave (batch_of c n) ≡ gave b = (rw (there, small) at r) in
     cc
 
-pub taken_inside : (count n : ℕ) (ps xs : List ℕ) → All (λ p. p < count) ps → xs ≡ take n ps → All (λ p. p < count) xs
-taken_inside count n ps xs inside same = subst (All (λ p. p < count)) (sym same) (All-take (λ p. p < count) n ps inside)
-
 pub batch_given : (s : State) (id n : ℕ) (count : ℕ) (size : Option ℕ) (b : GivenBatch) → IsReady s id count → IsMost size n → fits_batch size ≡ true
     → reply s (next_call id n) ≡ gave b → (c : OpenCursor) → cursor_of id s.cursors ≡ Some c → IsBatchOf size c b
 batch_given s id n count size b ready most fits r c there =

@@ -4,20 +4,20 @@ use Rattle.std.proofs.{lemmas.List.take-append-drop, lemmas.List.take_more, lemm
 use Rattle.std.proofs.lemmas.List.Elements.{All-cons, All-head, All-nil, All-tail, All-take, filter_map-append}
 use Rattle.std.specs.{List.All}
 use Rattle.bd_io_device.proofs.DevicesLemmas.{takes_both, takes_none, write_fails_after, write_fails_first}
-use Rattle.std.specs.Prelude.{slice_get}
+use Rattle.std.specs.{Prelude.slice_get, Result.result_map_both}
 use Rattle.bd_value.specs.Tree.{Doc, doc, fields_of}
 use Rattle.bd_extjson_text.specs.Text.{text as text_of}
 use Rattle.bd_bson_dump.specs.{Collection.documents_at}
 use Rattle.bd_bson_check.specs.Fault.{fault_view}
 use Rattle.bd_cli_scan.specs.{declared.output.OutputFault.OutputFault, declared.output.Status.Status, declared.output.Status.TheVariants.Done, declared.output.Status.TheVariants.Failed}
 use Rattle.bd_cli_scan.specs.Output.{Transcript, error_line, fault_text, lines, no_memory, refusal_output, stop_words}
-use Rattle.bd_cli_scan.specs.Run.{Prints, ReportsMessage, partial_run}
+use Rattle.bd_cli_scan.specs.Run.{Prints, ReportsMessage, refusal_run}
 use Rattle.bd_cli_args.specs.FindOptions.{FindOptions}
 use Rattle.bd_cursor_request.specs.{Request.Request, declared.token.Token.Token, declared.results.Refused.Refused, Refused.IsRefusedPart, Refused.Reason, Refused.reason_of, Refused.refused_words}
 use Rattle.bd_cli_find.specs.Options.{refused_text}
 use Rattle.bd_cli_find.specs.Options.{requested_by}
-use Rattle.bd_cli_find.specs.Find.{ArePieces, IsEnded, Printing, places_from, IsOutputOfFind, ReadsIfRequested, batch_output, batch_run, cursor_for, each_document, find_run, found_run, lines_run, output_of_dump, output_of_text}
-use Rattle.bd_cli_find.specs.Find.{counts_of, output_places, places_run}
+use Rattle.bd_cli_find.specs.Find.{ArePieces, IsEnded, Printing, places_from, IsOutputOfFind, ReadsIfRequested, batch_output, batch_run, cursor_for, cursor_over, each_document, find_run, found_run, lines_run, output_of_text}
+use Rattle.bd_cli_find.specs.Find.{counts_of}
 use Rattle.bd_cli_find.specs.inside.Find.{StopsAmong, WritesPieces}
 use Rattle.bd_cli_find.proofs.BatchLemmas.{led_few}
 use Rattle.bd_cursor_model.specs.{Answer.at_most, Session.OpenCursor, Session.Query}
@@ -117,23 +117,18 @@ module _ (ds : List Doc) where
 -- ---- the ends of a run
 
 module _ (program : List ℕ) (out_old out_new : Writer) (err_old err_new : Writer) (status : Status) where
-  -- memory ran out before anything was written
-  pub nothing_output : (output : Transcript) → ReportsMessage (between err_old err_new) (error_line program no_memory) Failed status
-      → Prints program (partial_run output) (between out_old out_old) (between err_old err_new) status
-  nothing_output output reported = inr (inr ([], (output.out, refl), takes_none out_old, reported))
-
   -- the line of a fault alone, or of out of memory
   pub refusal_is_output : (words : List ℕ) → ReportsMessage (between err_old err_new) (error_line program words) Failed status ⊎ ReportsMessage (between err_old err_new) (error_line program no_memory) Failed status
-      → Prints program (partial_run (refusal_output words)) (between out_old out_old) (between err_old err_new) status
+      → Prints program (refusal_run words) (between out_old out_old) (between err_old err_new) status
   refusal_is_output words (inl reported) = inl (refusal_output words, refl, takes_none out_old, reported)
-  refusal_is_output words (inr reported) = nothing_output (refusal_output words) reported
+  refusal_is_output words (inr reported) = inr (inr ([], refl, takes_none out_old, reported))
 
   module _ (printing : Printing) (size : Option ℕ) where
     -- memory ran out before a document was printed
-    nothing_found : (q : Query) (token : Option Token) (places : Result (List ℕ) Reason) → ReportsMessage (between err_old err_new) (error_line program no_memory) Failed status
-        → Prints program (places_run printing size q token places) (between out_old out_old) (between err_old err_new) status
-    nothing_found q token (Ok ps) reported = inr (inr ([], inl refl, takes_none out_old, reported))
-    nothing_found q token (Err why) reported = nothing_output (refusal_output (refused_text why)) reported
+    nothing_found : (cursor : Result OpenCursor (List ℕ)) → ReportsMessage (between err_old err_new) (error_line program no_memory) Failed status
+        → Prints program (batch_run printing size cursor) (between out_old out_old) (between err_old err_new) status
+    nothing_found (Ok c) reported = inr (inr ([], inl refl, takes_none out_old, reported))
+    nothing_found (Err message) reported = refusal_is_output message (inr reported)
 
     -- the output if no cursor was opened
     pub refused_output : (w : Request × Option Token) (bytes : List ℕ) (ds : List Doc) (refused : Refused) → IsRefusedPart (places_from (query_to bytes ds w.0) w.1) refused
@@ -141,8 +136,7 @@ module _ (program : List ℕ) (out_old out_new : Writer) (err_old err_new : Writ
         → Prints program (found_run printing size w bytes ds) (between out_old out_old) (between err_old err_new) status
     unfolding refused_words
     refused_output w bytes ds refused (inl want) reported =
-        let q = query_to bytes ds w.0 in
-        nothing_found q w.1 (places_from q w.1) (either (rw want at reported))
+        nothing_found (cursor_over w bytes ds None) (either (rw want at reported))
       where
         either : ReportsMessage (between err_old err_new) (error_line program no_memory) Failed status ⊎ ReportsMessage (between err_old err_new) (error_line program no_memory) Failed status
             → ReportsMessage (between err_old err_new) (error_line program no_memory) Failed status
@@ -154,13 +148,13 @@ module _ (program : List ℕ) (out_old out_new : Writer) (err_old err_new : Writ
       -- the batch was printed, and the line of counts
       pub batch_printed : WritesPieces printing.IsPiece (printing.items (at_most size c.remaining)) (between out_old out_new)
           → ReportsMessage (between err_old err_new) (counts_of size c) Done status
-          → Prints program (batch_run printing size c) (between out_old out_new) (between err_old err_new) status
+          → Prints program (batch_run printing size (Ok c)) (between out_old out_new) (between err_old err_new) status
       batch_printed (printed, are, took) reported = inl (output_of_text size c printed, (printed, are, refl), took, reported)
 
       -- standard output was stopped
       pub batch_stopped : (stopped : OutputFault) → StopsAmong printing.IsPiece (printing.items (at_most size c.remaining)) (between out_old out_new) stopped
           → ReportsMessage (between err_old err_new) (error_line program (stop_words stopped)) Failed status
-          → Prints program (batch_run printing size c) (between out_old out_new) (between err_old err_new) status
+          → Prints program (batch_run printing size (Ok c)) (between out_old out_new) (between err_old err_new) status
       batch_stopped NoMemory (printed, first, took) reported = inr (inr (printed, first, took, reported))
       batch_stopped Unwritten (printed, next, is, failed) reported = inr (inl (printed, next, is, failed, reported))
 
@@ -174,15 +168,11 @@ output_found options file bytes output read is (inr (inl (text, piece, next, fai
 output_found options file bytes output read is (inr (inr (text, begun, wrote, reported))) = inr (inr (text, inl (bytes, output, read, is, begun), wrote, reported))
 
 -- a refusal prints no line
-pub refusal_lines : {program : List ℕ} {out err : Over Writer} {status : Status} (words : List ℕ) → Prints program (partial_run (refusal_output words)) out err status
+pub refusal_lines : {program : List ℕ} {out err : Over Writer} {status : Status} (words : List ℕ) → Prints program (refusal_run words) out err status
     → Prints program (lines_run (refusal_output words)) out err status
 refusal_lines words (inl whole) = inl whole
 refusal_lines words (inr (inl next)) = inr (inl next)
-refusal_lines words (inr (inr (text, (rest, splits), took, reported))) = inr (inr (text, inl (nothing text rest splits), took, reported))
-  where
-    nothing : (text rest : List ℕ) → [] ≡ text ++ rest → text ≡ []
-    nothing [] rest none = refl
-    nothing (x ∷ text) rest none = absurd cc
+refusal_lines words (inr (inr (text, none, took, reported))) = inr (inr (text, inl none, took, reported))
 
 -- the input is no dump in memory, which is reported
 pub load_reported : {program : List ℕ} (options : FindOptions) (w : Request × Option Token) (file : Over Reader) (out : Writer) (err : Over Writer) (status : Status) (fault : InputFault) → requested_by options ≡ Ok w
@@ -210,8 +200,8 @@ load_reported {program} options w file out err status (faults.Faulty fault) is (
 
 -- a run by the texts of the dump's documents is a run of `find`
 module _ (program : List ℕ) (size : Option ℕ) (ds : List Doc) (out err : Over Writer) (status : Status) where
-  batch_named : (c : OpenCursor) → All (λ p. p < length ds) (at_most size c.remaining) → Prints program (batch_run (each_document (IsNamedText ds) (10 ∷ [])) size c) out err status
-      → Prints program (lines_run (batch_output size ds c)) out err status
+  batch_named : (c : OpenCursor) → All (λ p. p < length ds) (at_most size c.remaining) → Prints program (batch_run (each_document (IsNamedText ds) (10 ∷ [])) size (Ok c)) out err status
+      → Prints program (lines_run (batch_output size ds (Ok c))) out err status
   batch_named c inside (inl (output, (printed, are, is), took, reported)) =
       inl (output, is ∙ ap (output_of_text size c) (named_lines ds (at_most size c.remaining) printed inside are), took, reported)
   batch_named c inside (inr (inl (printed, next, (ps, p, others, splits, are, one), (prefix, rest, split, some, contents, failed), reported))) =
@@ -246,12 +236,12 @@ module _ (program : List ℕ) (size : Option ℕ) (ds : List Doc) (out err : Ove
   limited_inside n (Some k) ps inside = All-take (λ p. p < n) k ps inside
 
   pub found_named : (w : Request × Option Token) (bytes : List ℕ) → Prints program (found_run (each_document (IsNamedText ds) (10 ∷ [])) size w bytes ds) out err status
-      → Prints program (lines_run (output_of_dump size w bytes ds)) out err status
+      → Prints program (lines_run (batch_output size ds (cursor_over w bytes ds None))) out err status
   found_named w bytes = let q = query_to bytes ds w.0 in go q refl (places_from q w.1) refl
     where
       go : (q : Query) → q.selection.count ≡ length ds → (places : Result (List ℕ) Reason) → places_from q w.1 ≡ places
-          → Prints program (places_run (each_document (IsNamedText ds) (10 ∷ [])) size q w.1 places) out err status
-          → Prints program (lines_run (output_places size ds q w.1 places)) out err status
+          → Prints program (batch_run (each_document (IsNamedText ds) (10 ∷ [])) size (result_map_both (cursor_for 1 q w.1) refused_text places)) out err status
+          → Prints program (lines_run (batch_output size ds (result_map_both (cursor_for 1 q w.1) refused_text places))) out err status
       go q count (Err why) led prints = refusal_lines (refused_text why) prints
       go q count (Ok ps) led prints =
           let inside = subst (λ (n : ℕ). All (λ p. p < n) ps) count (led_few q w.1 ps led).0 in

@@ -8,7 +8,7 @@ use Rattle.bd_cli_args.specs.FindOptions.{FindOptions}
 use Rattle.bd_path.specs.declared.path.PathFault.{PathFault}
 use Rattle.bd_cursor_request.specs.{declared.token.Token.Token, Refused.Reason, Refused.then_part, Refused.error_as, Request.Request, Request.named_index, Request.request_of}
 use Rattle.bd_cli_find.specs.Options.{after_part, batch_part, document_in, index_fault_text, refused_text, requested_by, search_of}
-use Rattle.bd_cli_find.specs.Find.{IsOutputOfFind, IsOutputOf, IsOutputOfBytes, documents_output, output_of_dump, output_of_scan}
+use Rattle.bd_cli_find.specs.Find.{IsOutputOfFind, IsOutputOf, batch_output, cursor_over, documents_output}
 use Rattle.bd_cli_scan.specs.Output.{Transcript, lines, refusal_output}
 
 -- ---- there is one output
@@ -19,7 +19,7 @@ prints_once size (Err m) input s t p q = p ∙ sym q
 prints_once size (Ok w) (Err fault) s t p q = p ∙ sym q
 prints_once size (Ok w) (Ok bytes) s t (ds, end, scan, e) (es, other, scanned, f) =
     let same = scan_once ds es end other bytes scan scanned in
-    e ∙ ap₂ (λ (xs : List Doc) (o : Option Fault). output_of_scan size w bytes xs o) same.0 same.1 ∙ sym f
+    e ∙ ap₂ (λ (xs : List Doc) (o : Option Fault). batch_output size xs (cursor_over w bytes xs o)) same.0 same.1 ∙ sym f
 
 pub found_once : (options : FindOptions) (input : Result (List ℕ) ReadFault) (s t : Transcript) → IsOutputOfFind options input s → IsOutputOfFind options input t → s ≡ t
 found_once options = prints_once options.batch (requested_by options)
@@ -56,15 +56,15 @@ pub whole_printed : (options : FindOptions) (r : Request) (t : Option Token) (ds
 whole_printed options r t ds bytes output size after requests scan prints =
     let token : Ok None ≡ Ok t = (rw after at (requested_token options (r, t) requests)) in
     let none : None ≡ t = cc in
-    let whole = prints_once None (Ok (r, t)) (Ok bytes) output (output_of_dump None (r, t) bytes ds) (rw (requests, size) at prints) (ds, None, scan, refl) in
-    ap (λ (x : Transcript). x.out) whole ∙ ap (λ (x : Option Token). (output_of_dump None (r, x) bytes ds).out) (sym none)
+    let whole = prints_once None (Ok (r, t)) (Ok bytes) output (batch_output None ds (cursor_over (r, t) bytes ds None)) (rw (requests, size) at prints) (ds, None, scan, refl) in
+    ap (λ (x : Transcript). x.out) whole ∙ ap (λ (x : Option Token). (batch_output None ds (cursor_over (r, x) bytes ds None)).out) (sym none)
 
 -- ---- there is an output
 
-pub bytes_print : (size : Option ℕ) (w : Request × Option Token) (bytes : List ℕ) → IsBytes bytes → (output : Transcript) × IsOutputOfBytes size w bytes output
+bytes_print : (size : Option ℕ) (w : Request × Option Token) (bytes : List ℕ) → IsBytes bytes → (output : Transcript) × IsOutputOf size (Ok w) (Ok bytes) output
 bytes_print size w bytes fits =
     let scan = scan_on [] [] bytes fits refl in
-    (output_of_scan size w bytes scan.more scan.end, (scan.more, scan.end, scan.scan, refl))
+    (batch_output size scan.more (cursor_over w bytes scan.more scan.end), (scan.more, scan.end, scan.scan, refl))
 
 -- options and all bytes of an input have an output
 pub found_some : (options : FindOptions) (bytes : List ℕ) → IsBytes bytes → (output : Transcript) × IsOutputOfFind options (Ok bytes) output

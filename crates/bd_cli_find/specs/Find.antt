@@ -1,7 +1,7 @@
 -- What `find` prints for its options and an input, and where a run of it may stop.
 use Rattle.std.specs.Prelude.{◌≡◌, ℕ, nat_lt, List, [], length, option_map, Option, Some, None, Result}
 use Rattle.std.specs.Prelude.{Ok, Err, codes, if◌then◌else◌, ◌⊎◌, Bool, true, false, map, ◌∷◌, ◌++◌}
-use Rattle.std.specs.{Prelude.drop, Prelude.decimal, Str.bytes_eq}
+use Rattle.std.specs.{Prelude.drop, Prelude.decimal, Result.result_map_both, Str.bytes_eq}
 use Rattle.bd_value.specs.{Tree.Doc, Tree.doc, Tree.fields_of}
 use Rattle.bd_cursor_model.specs.Answer.{answer, rest, at_most, is_empty}
 use Rattle.bd_cursor_model.specs.Session.{OpenCursor, Query, PositionedToken, token_after}
@@ -17,7 +17,7 @@ use Rattle.bd_cli_args.specs.FindOptions.{FindOptions}
 use Rattle.bd_cli_find.specs.Options.{refused_text, requested_by}
 use Rattle.bd_cli_find.specs.declared.around.Around.{Around as Slices}
 use Rattle.bd_cursor_sort.specs.Selection.{query_to, selection_for}
-use Rattle.bd_cli_scan.specs.{Input.ReadsInput, Run.Run, Run.partial_run}
+use Rattle.bd_cli_scan.specs.{Input.ReadsInput, Run.Run, Run.refusal_run, Run.run_until}
 use Rattle.bd_cli_scan.specs.declared.output.Status.TheVariants.{Done}
 use Rattle.bd_cli_scan.specs.Output.{Transcript, lines, fault_text, refusal_output}
 use Rattle.bd_extjson_text.specs.Text.{text}
@@ -65,36 +65,24 @@ counts_of size c = let ps = at_most size c.remaining in
 abbrev pub output_of_text : Option ℕ → OpenCursor → List ℕ → Transcript
 output_of_text size c printed = record { out = printed; err = λ program. counts_of size c; status = Done }
 
--- the output of `find` for a cursor: the documents of its first batch, and the line of counts with the token
-abbrev pub batch_output : Option ℕ → List Doc → OpenCursor → Transcript
-batch_output size ds c = output_of_text size c (lines (documents_at ds (at_most size c.remaining)))
+-- the first cursor for a request and a token, over bytes that are these documents; or the message, if the document after them has a
+-- fault or the token is refused
+abbrev pub cursor_over : Request × Option Token → List ℕ → List Doc → Option Fault → Result OpenCursor (List ℕ)
+cursor_over w bytes ds None =
+    let q = query_to bytes ds w.0 in result_map_both (cursor_for 1 q w.1) refused_text (places_from q w.1)
+cursor_over w bytes ds (Some fault) = Err (fault_text (length ds) fault)
 
--- the output of `find` for a query and a token: the first batch of the requested documents, with this size;
--- or why the token is refused
-abbrev pub output_places : Option ℕ → List Doc → Query → Option Token → Result (List ℕ) Reason → Transcript
-output_places size ds q token (Ok ps) = batch_output size ds (cursor_for 1 q token ps)
-output_places size ds q token (Err why) = refusal_output (refused_text why)
-
--- the output of `find` for a well-formed dump: the first batch, or why the token is refused
-abbrev pub output_of_dump : Option ℕ → Request × Option Token → List ℕ → List Doc → Transcript
-output_of_dump size w bytes ds =
-    let q = query_to bytes ds w.0 in output_places size ds q w.1 (places_from q w.1)
-
--- the output of `find` for bytes that are these documents; if one has a fault, only that
-abbrev pub output_of_scan : Option ℕ → Request × Option Token → List ℕ → List Doc → Option Fault → Transcript
-output_of_scan size w bytes ds None = output_of_dump size w bytes ds
-output_of_scan size w bytes ds (Some fault) = refusal_output (fault_text (length ds) fault)
-
--- This is the output of `find` for the bytes of its input.
-abbrev pub IsOutputOfBytes : Option ℕ → Request × Option Token → List ℕ → Transcript → Type 0
-IsOutputOfBytes size w bytes output =
-    (ds : List Doc) × (end : Option Fault) × IsDumpScan ds end bytes × (output ≡ output_of_scan size w bytes ds end)
+-- the output of `find` for a cursor: the documents of its first batch, and the line of counts with the token; or a message alone
+abbrev pub batch_output : Option ℕ → List Doc → Result OpenCursor (List ℕ) → Transcript
+batch_output size ds (Ok c) = output_of_text size c (lines (documents_at ds (at_most size c.remaining)))
+batch_output size ds (Err message) = refusal_output message
 
 -- This is the output of `find` for a batch size, a request and an input: the first error alone, or the first batch.
 abbrev pub IsOutputOf : Option ℕ → Result (Request × Option Token) (List ℕ) → Result (List ℕ) ReadFault → Transcript → Type 0
 IsOutputOf size (Err message) input output = output ≡ refusal_output message
 IsOutputOf size (Ok w) (Err fault) output = output ≡ refusal_output (read_words fault)
-IsOutputOf size (Ok w) (Ok bytes) output = IsOutputOfBytes size w bytes output
+IsOutputOf size (Ok w) (Ok bytes) output = (ds : List Doc) × (end : Option Fault) × IsDumpScan ds end bytes
+    × (output ≡ batch_output size ds (cursor_over w bytes ds end))
 
 -- This is the output of `find` for its options and an input.
 abbrev pub IsOutputOfFind : FindOptions → Result (List ℕ) ReadFault → Transcript → Type 0
@@ -112,11 +100,7 @@ AreFirstLines out text =
 
 -- a run that prints this output; if memory runs out, that is before a line
 abbrev pub lines_run : Transcript → Run
-lines_run output = record {
-  IsOutput = λ o. o ≡ output;
-  IsNext = λ text piece. (text ≡ []) × (piece ≡ output.out);
-  IsBegun = AreFirstLines output.out;
-}
+lines_run output = run_until (AreFirstLines output.out) output
 
 -- A run of `find`: it reads its whole input first, unless an option is refused;
 -- or memory ran out before, and nothing was read.
@@ -208,23 +192,18 @@ abbrev pub IsNextPiece : {I : Type 0} → (I → List ℕ → Type 0) → List I
 IsNextPiece {I} IsPiece ns text next = (printed : List I) × (n : I) × (others : List I) × (ns ≡ printed ++ n ∷ others)
     × ArePieces IsPiece printed text × IsPiece n next
 
--- A run of `find` for a cursor prints its first batch piece by piece.
-abbrev pub batch_run : Printing → Option ℕ → OpenCursor → Run
-batch_run printing size c = let ns = printing.items (at_most size c.remaining) in record {
+-- A run of `find` for a cursor prints its first batch piece by piece; or a message alone.
+abbrev pub batch_run : Printing → Option ℕ → Result OpenCursor (List ℕ) → Run
+batch_run printing size (Ok c) = let ns = printing.items (at_most size c.remaining) in record {
   IsOutput = λ output. (text : List ℕ) × ArePieces printing.IsPiece ns text × (output ≡ output_of_text size c text);
   IsNext = IsNextPiece printing.IsPiece ns;
   IsBegun = AreFirstPieces printing.IsPiece ns;
 }
-
--- A run of `find` for a query and a token prints the first batch of the requested documents, or why the token is refused.
-abbrev pub places_run : Printing → Option ℕ → Query → Option Token → Result (List ℕ) Reason → Run
-places_run printing size q token (Ok ps) = batch_run printing size (cursor_for 1 q token ps)
-places_run printing size q token (Err why) = partial_run (refusal_output (refused_text why))
+batch_run printing size (Err message) = refusal_run message
 
 -- A run of `find` over a well-formed dump.
 abbrev pub found_run : Printing → Option ℕ → Request × Option Token → List ℕ → List Doc → Run
-found_run printing size w bytes ds =
-    let q = query_to bytes ds w.0 in places_run printing size q w.1 (places_from q w.1)
+found_run printing size w bytes ds = batch_run printing size (cursor_over w bytes ds None)
 
 -- ---- in terms of documents
 

@@ -1,6 +1,6 @@
 //! The first batch of a request, and what is around its documents.
 
-ghost use Rattle.std.specs.Prelude.{◌≡◌, ◌++◌, ◌<◌, ◌≤◌, ℕ, List, IfErr, IfOk, OnOk, Option, length, true};
+ghost use Rattle.std.specs.Prelude.{◌≡◌, ◌++◌, ◌<◌, ◌≤◌, ℕ, List, IfErr, IfOk, Ok, OnOk, Option, length, true};
 ghost use Rattle.std.specs.List.{All};
 ghost use Rattle.bd_value.specs.Limits.{greatest_count};
 ghost use Rattle.bd_io_device.specs.Devices.{over};
@@ -91,7 +91,7 @@ fn print_batch<P: PlacePrinter, O: Output, E: Output>(
     requires { All (P.can_print printer.now dump.now) batch.now.places.items }
     ensures { (size : Option ℕ) (cursor : OpenCursor) →
         IsBatchOf size cursor (given_batch batch.now) → Prints program.now (batch_run
-        (around_documents (P.is_text printer.now dump.now) (around_of around.now)) size cursor)
+        (around_documents (P.is_text printer.now dump.now) (around_of around.now)) size (Ok cursor))
         (over O.state out.old out.new) (over E.state err.old err.new) result }
 {
     match write_around(alloc, printer, around, dump, &batch.places, out) {

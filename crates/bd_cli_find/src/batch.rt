@@ -1,6 +1,6 @@
 //! The first batch of a request, and its output.
 
-ghost use Rattle.std.specs.Prelude.{◌≡◌, ◌<◌, ◌≤◌, ℕ, IfErr, IfOk, MatchOption, OnErr, OnOk, Option, length, option_map, true};
+ghost use Rattle.std.specs.Prelude.{◌≡◌, ◌<◌, ◌≤◌, ℕ, IfErr, IfOk, MatchOption, Ok, OnErr, OnOk, Option, length, option_map, true};
 ghost use Rattle.std.specs.List.{All};
 ghost use Rattle.bd_value.specs.Limits.{greatest_count};
 ghost use Rattle.bd_io_device.specs.Devices.{TakesText, WriteFailsWithin, over};
@@ -168,7 +168,7 @@ fn print_batch<P: PlacePrinter, O: Output, E: Output>(
     requires { All (P.can_print printer.now dump.now) batch.now.places.items }
     ensures { (size : Option ℕ) (cursor : OpenCursor) →
         IsBatchOf size cursor (given_batch batch.now) → Prints program.now
-        (batch_run (each_document (P.is_text printer.now dump.now) end.now) size cursor)
+        (batch_run (each_document (P.is_text printer.now dump.now) end.now) size (Ok cursor))
         (over O.state out.old out.new) (over E.state err.old err.new) result }
 {
     match write_documents(alloc, printer, end, dump, &batch.places, out) {
@@ -186,7 +186,7 @@ fn print_number<O: Output, E: Output>(
 ) -> Status
     ensures { (size : Option ℕ) (cursor : OpenCursor) →
         IsBatchOf size cursor (given_batch batch.now) →
-        Prints program.now (batch_run their_count size cursor)
+        Prints program.now (batch_run their_count size (Ok cursor))
         (over O.state out.old out.new) (over E.state err.old err.new) result }
 {
     match write_count(batch.places.len() as u64, "\n", out) {

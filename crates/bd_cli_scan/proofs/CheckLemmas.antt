@@ -14,12 +14,12 @@ use Rattle.bd_bson_dump.specs.CheckResults.{check_results_at, check_results, che
 use Rattle.bd_bson_dump.proofs.CheckResultLemmas.{none_at, turn_at, last_at, as_scan}
 use Rattle.bd_cli_scan.specs.{Input.StopsInside, Input.StreamsInput, declared.input.InputFault.InputFault, declared.output.OutputFault.OutputFault}
 use Rattle.bd_cli_scan.specs.{declared.output.Status.Status, declared.output.Status.TheVariants.Failed}
-use Rattle.bd_cli_scan.specs.Check.{AreCheckResults, ChecksWithinLimit, HasResultsFirst, IsOutputOfCheck, check_message, check_status, check_output, check_result_line, check_result_lines, check_run_under}
+use Rattle.bd_cli_scan.specs.Check.{AreCheckResults, ChecksWithinLimit, HasResultsFirst, IsOutputOfCheck, check_counts, check_status, check_output, check_result_line, check_result_lines, check_run_under}
 use Rattle.bd_cli_scan.specs.inside.Scan.{AreVisited, IsTextOf, StopsScan}
 use Rattle.bd_cli_scan.specs.Dump.{IsOutputOfDump}
 use Rattle.bd_cli_scan.specs.inside.Scan.{more_visited, none_visited}
 use Rattle.bd_cli_scan.specs.inside.Scan.{ScansDocuments, check_texts}
-use Rattle.bd_cli_scan.specs.Output.{error_line, stop_words, Transcript, fault_text, wrong_status}
+use Rattle.bd_cli_scan.specs.Output.{error_line, stop_words, Transcript, fault_text, wrong_line, wrong_status}
 use Rattle.bd_cli_scan.specs.Run.{Prints, ReportsMessage}
 use Rattle.bd_cli_scan.specs.declared.output.OutputFault.TheVariants.{NoMemory, Unwritten}
 use Rattle.bd_cli_scan.proofs.DumpLemmas.{scan_named}
@@ -153,7 +153,7 @@ module _ (program : List ℕ) (p : Profile) (old new : Reader) (out_old out_new 
   abbrev Reported : ℕ → ℕ → Option ReadFault → Type 0
   Reported count worse unread =
       let message = option_map read_words unread in
-      ReportsMessage (between err_old err_new) (check_message program message count worse) (check_status message worse) status
+      ReportsMessage (between err_old err_new) (wrong_line program message ++ check_counts count worse) (check_status message worse) status
 
   abbrev Scanned : ℕ → ℕ → Option InputFault → Type 0
   Scanned documents bad fault = ScansDocuments (check_texts p) (between old new) (between out_old out_new) (record { count = documents; bad = bad; fault = fault })
@@ -205,11 +205,11 @@ module _ (program : List ℕ) (p : Profile) (old new : Reader) (out_old out_new 
   Reports stopped = ReportsMessage (between err_old err_new) (error_line program (stop_words stopped)) Failed status
 
   pub prints_stop : (stopped : OutputFault) → StopsScan (check_texts p) (between old new) (between out_old out_new) stopped → Reports stopped → PrintsCheck
-  prints_stop NoMemory (vs, given, text, visited, (part, at), no_failure, wrote) reported =
+  prints_stop NoMemory (vs, given, text, visited, ((part, at), no_failure), wrote) reported =
       let bytes = part ++ rest_of new.remaining in
       let j = checked p vs given text visited in
       let first : HasResultsFirst p (between old new) vs = (given ++ bytes, check_results_at p (length given) bytes, streams visited old new part at no_failure, j.1 bytes) in
-      inr (inr (text, (vs, given, sym (all_checked visited), (part, at), first, j.0), wrote, reported))
+      inr (inr (text, (vs, given, sym (all_checked visited), ((part, at), no_failure), first, j.0), wrote, reported))
   prints_stop Unwritten (vs, given, text, piece, visited, failed_write, inl (None, frame, is, (none, line), at, no_failure)) reported =
       absurd (no_write_fails out_old out_new text piece failed_write line)
   prints_stop Unwritten (vs, given, text, piece, visited, failed_write, inl (Some f, frame, is, prints, at, no_failure)) reported =

@@ -119,7 +119,7 @@ module _ (program : List ℕ) (form : Form) (old new : Reader) (out_old out_new 
     ends None at wrote (inr reported) = let e = reported.1 in absurd cc
     ends (Some (inputs.Faulty f)) (part, rest, was, at, numbered, fails, last) wrote (inr reported) = inr (inr (
       form.opening ++ (pieces ++ []),
-      inr (ds, given, joined, (part, at), was.2, (pieces, are, ap (λ x. form.opening ++ x) (append-nil pieces))),
+      inr (ds, given, joined, ((part, at), was.2), (pieces, are, ap (λ x. form.opening ++ x) (append-nil pieces))),
       wrote,
       reported.2,
     ))
@@ -137,9 +137,9 @@ module _ (program : List ℕ) (form : Form) (old new : Reader) (out_old out_new 
   -- the scan was stopped, after what is before the documents
   scan_stopped : (middle : Writer) → TakesText (between out_old middle) form.opening → (stopped : OutputFault)
       → StopsScan (dump_texts form) (between old new) (between middle out_new) stopped → ReportsStop stopped → PrintsDump
-  scan_stopped middle opened NoMemory (vs, given, text, visited, at, no_failure, wrote) reported =
+  scan_stopped middle opened NoMemory (vs, given, text, visited, within, wrote) reported =
       let p = printed form vs given text visited in
-      inr (inr (form.opening ++ text, inr (p.0, given, p.1, at, no_failure, (text, p.3, refl)), takes_both out_old middle out_new form.opening text opened wrote, reported))
+      inr (inr (form.opening ++ text, inr (p.0, given, p.1, within, (text, p.3, refl)), takes_both out_old middle out_new form.opening text opened wrote, reported))
   scan_stopped middle opened Unwritten (vs, given, text, piece, visited, failed_write, inl (None, frame, is, (none, (d, spelled, here)), at, no_failure)) reported =
       let p = printed form vs given text visited in
       let next = documents_append form p.0 (d ∷ []) given frame p.1 (one_document form d frame spelled) in

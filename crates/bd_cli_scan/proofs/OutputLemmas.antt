@@ -1,18 +1,17 @@
 -- Lemmas on what a run writes.
-use Rattle.std.proofs.Common.{subst, ◌≡◌, ℕ, List, [], ◌∷◌, ◌++◌, refl, sym, ap, ◌∙◌, append_assoc, ◌⊎◌, append-nil, inl, inr, arith, ap₂, map, IsUtf8, String}
+use Rattle.std.proofs.Common.{subst, ◌≡◌, ℕ, List, [], ◌∷◌, ◌++◌, refl, sym, ap, ◌∙◌, append_assoc, arith, ap₂, map, IsUtf8, String}
 use Rattle.std.proofs.lemmas.{Bool.Decides.nat_tests, Str.IsUtf8-append, Str.IsUtf8-nil, Str.IsUtf8-string_bytes}
 use Rattle.std.specs.Prelude.{OnErr, OnOk, Result, Ok, Err, string_bytes}
 use Rattle.std.specs.List.{join_with_byte}
 use Rattle.bd_value.specs.Tree.{Doc, doc, fields_of}
-use Rattle.bd_io_device.specs.Devices.{WriteFailsWithin, Over, TakesPrefix, TakesText, Writer, between}
+use Rattle.bd_io_device.specs.Devices.{WriteFailsWithin, Over, TakesText, Writer, between}
 use Rattle.bd_io_device.proofs.DevicesLemmas.{write_fails_first, write_fails_second, takes_both}
 use Rattle.json.proofs.Printed.Utf8.{IsUtf8-are_ascii, IsUtf8-quoted}
 use Rattle.bd_extjson_text.specs.Text.{escape_byte, escaped, quoted, text}
-use Rattle.bd_cli_scan.specs.{declared.output.OutputFault.OutputFault, declared.output.Status.Status, declared.output.Status.TheVariants.Failed}
+use Rattle.bd_cli_scan.specs.{declared.output.OutputFault.OutputFault}
 use Rattle.bd_cli_scan.specs.declared.output.OutputFault.TheVariants.{NoMemory, Unwritten}
-use Rattle.bd_cli_scan.specs.Output.{lines, Transcript, error_line, no_memory, stop_words}
-use Rattle.bd_cli_scan.specs.inside.Output.{StopsWithin, WritesSome, WritesText}
-use Rattle.bd_cli_scan.specs.Run.{Prints, ReportsMessage, partial_run}
+use Rattle.bd_cli_scan.specs.Output.{lines}
+use Rattle.bd_cli_scan.specs.inside.Output.{WritesSome, WritesText}
 use Rattle.json.specs.Print as printed
 
 -- the lines of two lists of documents are those of both joined
@@ -46,38 +45,11 @@ second_ok (Err e) old mid new first second a h = _
 
 pub ruleset taking = (takes_both, write_fails_first, write_fails_second)
 
--- ---- a text of which a prefix was written
-
--- if a writer took a prefix of a text, the whole text has that prefix
-pub prefix_taken : (old new : Writer) (prefix rest all : List ℕ) → TakesText (between old new) prefix → all ≡ prefix ++ rest → TakesPrefix (between old new) all
-prefix_taken old new prefix rest all took splits = (prefix, rest, splits, took)
-
--- a write failed in the piece after what was written
-pub write_fails_piece : (old mid new : Writer) (prefix piece rest all : List ℕ) → TakesText (between old mid) prefix → WriteFailsWithin (between mid new) piece
-    → all ≡ prefix ++ (piece ++ rest) → WriteFailsWithin (between old new) all
-write_fails_piece old mid new prefix piece rest all took failed_write splits =
-    let whole = write_fails_first old new (prefix ++ piece) rest (write_fails_second old mid new prefix piece took failed_write) in
-    subst (λ (x : List ℕ). WriteFailsWithin (between old new) x) (append_assoc prefix piece rest ∙ sym splits) whole
-
 -- a text was written, or writing it was stopped
 pub wrote_some : {A : Type 0} (Is : List ℕ → Type 0) (text : List ℕ) (out : Over Writer) (r : Result A OutputFault) → Is text → WritesText text out r → WritesSome Is out r
 wrote_some Is text out (Ok x) is wrote = (text, is, wrote)
 wrote_some Is text out (Err NoMemory) is same = same
 wrote_some Is text out (Err Unwritten) is failed_write = (text, is, failed_write)
-
--- if standard output has everything and standard error the message, or that memory ran out,
--- the run printed its output
-pub all_output : (program : List ℕ) (out_old out_new err_old err_new : Writer) (status : Status) (output : Transcript) → TakesText (between out_old out_new) output.out
-    → ReportsMessage (between err_old err_new) (output.err program) output.status status ⊎ ReportsMessage (between err_old err_new) (error_line program no_memory) Failed status
-    → Prints program (partial_run output) (between out_old out_new) (between err_old err_new) status
-all_output program out_old out_new err_old err_new status output wrote (inl reported) = inl (output, refl, wrote, reported)
-all_output program out_old out_new err_old err_new status output wrote (inr reported) = inr (inr (output.out, ([], sym (append-nil output.out)), wrote, reported))
-
--- standard output was stopped
-pub stop_output : (program : List ℕ) (out_old out_new err_old err_new : Writer) (status : Status) (output : Transcript) (stopped : OutputFault) → StopsWithin (between out_old out_new) output.out stopped
-    → ReportsMessage (between err_old err_new) (error_line program (stop_words stopped)) Failed status → Prints program (partial_run output) (between out_old out_new) (between err_old err_new) status
-stop_output program out_old out_new err_old err_new status output NoMemory (prefix, rest, splits, took) reported = inr (inr (prefix, (rest, splits), took, reported))
-stop_output program out_old out_new err_old err_new status output Unwritten failed_write reported = inr (inl ([], output.out, (refl, refl), failed_write, reported))
 
 -- ---- a path is UTF-8
 

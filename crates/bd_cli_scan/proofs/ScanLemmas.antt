@@ -254,7 +254,7 @@ module _ {texts : Texts} {old mid : Reader} {out_old out_mid : Writer} {buffer :
 
     -- memory ran out
     pub runs_out : StopsScan texts (between old new) (between out_old out_mid) NoMemory
-    runs_out = (s.done, s.given, s.text, s.visited, (part, at), g.no_failure ∙ s.no_failure, s.wrote)
+    runs_out = (s.done, s.given, s.text, s.visited, ((part, at), g.no_failure ∙ s.no_failure), s.wrote)
 
     -- the text for the next document was not written
     pub stops_by : (out_new : Writer) (v : Option Fault) (piece : List ℕ) (stopped : OutputFault) → IsFrame part → IsTextOf texts buffer.number buffer.offset part v piece
@@ -328,7 +328,7 @@ module _ {texts : Texts} {R : Type 0} {state : R → Reader} {gives : R → Opti
 
     pub stops_by_length : (out : Writer) (stopped : OutputFault) → StopsWriting line (between out_mid out) stopped → StopsScan texts (between old (state n)) (between out_old out) stopped
     stops_by_length out NoMemory same =
-        subst (λ (w : Writer). StopsScan texts (between old (state n)) (between out_old w) NoMemory) (sym same) (s.done, s.given, s.text, s.visited, (end.0, end.3), end.2.2, s.wrote)
+        subst (λ (w : Writer). StopsScan texts (between old (state n)) (between out_old w) NoMemory) (sym same) (s.done, s.given, s.text, s.visited, ((end.0, end.3), end.2.2), s.wrote)
     stops_by_length out Unwritten failed_write = by_text (texts.bad f.document (fault_view f)) refl
       where
         by_text : (o : Option (List ℕ)) → texts.bad f.document (fault_view f) ≡ o → StopsScan texts (between old (state n)) (between out_old out) Unwritten

@@ -11,8 +11,8 @@ use Rattle.bd_bson_dump.specs.CheckResults.{check_results_under}
 use Rattle.bd_cli_scan.specs.{declared.output.Status.Status}
 use Rattle.bd_cli_scan.specs.{declared.output.Status.TheVariants.Done}
 use Rattle.bd_cli_scan.specs.{declared.output.Status.TheVariants.Failed}
-use Rattle.bd_cli_scan.specs.Input.{GivesOnly, StopsWithinOne, StreamsInput}
-use Rattle.bd_cli_scan.specs.Output.{Transcript, fault_text, wrong_line}
+use Rattle.bd_cli_scan.specs.Input.{GivesOnly, GivesWithinOne, StreamsInput}
+use Rattle.bd_cli_scan.specs.Output.{Transcript, fault_text, output_before}
 use Rattle.bd_cli_scan.specs.Run.{Run}
 
 -- the line of `check` for a document: its first fault; a document without a fault has no line
@@ -25,12 +25,9 @@ abbrev pub check_result_lines : ℕ → List (Option Fault) → List ℕ
 check_result_lines number [] = []
 check_result_lines number (v ∷ vs) = check_result_line number v ++ check_result_lines (suc number) vs
 
--- what `check` of the program of that name writes on standard error: why the input was not read to its end, if so,
--- then how many documents there are and how many are faulty
-abbrev pub check_message : List ℕ → Option (List ℕ) → ℕ → ℕ → List ℕ
-check_message program message documents faulty =
-    (wrong_line program message ++ (decimal documents ++ codes " documents, "))
-    ++ (decimal faulty ++ (codes " faulty" ++ 10 ∷ []))
+-- the line of counts of `check`: how many documents there are, and how many are faulty
+abbrev pub check_counts : ℕ → ℕ → List ℕ
+check_counts documents faulty = decimal documents ++ (codes " documents, " ++ (decimal faulty ++ (codes " faulty" ++ 10 ∷ [])))
 
 -- the status of `check`: done if each document is well-formed and the input was read completely, otherwise failed (1)
 abbrev pub check_status : Option (List ℕ) → ℕ → Status
@@ -39,11 +36,10 @@ check_status _ faulty = Failed
 
 -- the output of `check` for documents, or for those before a failed read
 abbrev pub check_output : List (Option Fault) → Option ReadFault → Transcript
-check_output vs unread = let message = option_map read_words unread in record {
-  out = check_result_lines 0 vs;
-  err = λ program. check_message program message (length vs) (count_by is_some vs);
-  status = check_status message (count_by is_some vs);
-}
+check_output vs unread =
+    let message = option_map read_words unread in
+    let faulty = count_by is_some vs in
+    record (output_before (check_result_lines 0 vs) message (check_counts (length vs) faulty)) { status = check_status message faulty }
 
 -- For each document of an input its first fault or None;
 -- if a read failed, for those before the document in which it failed.
@@ -83,7 +79,7 @@ check_run_under p file = record {
       × (check_results_under p given ≡ vs ++ Some f ∷ []) × GivesOnly file given × HasResultsFirst p file (vs ++ Some f ∷ [])
       × (text ≡ check_result_lines 0 vs) × (piece ≡ check_result_line (length vs) (Some f));
   IsBegun = λ text. (vs : List (Option Fault)) × (given : List ℕ) × (check_results_under p given ≡ vs)
-      × StopsWithinOne given file × HasResultsFirst p file vs × (text ≡ check_result_lines 0 vs);
+      × GivesWithinOne file given × HasResultsFirst p file vs × (text ≡ check_result_lines 0 vs);
 }
 
 -- a run of `check`

@@ -9,7 +9,7 @@ use Rattle.bd_bson_check.specs.{Fault.Fault, declared.profile.Profile.Profile}
 use Rattle.bd_bson_check.specs.Dump.{frame_fault_under}
 use Rattle.bd_bson_stream.specs.Stream.{IsCutShort}
 use Rattle.bd_extjson_text.specs.Text.{text as text_of}
-use Rattle.bd_cli_scan.specs.Input.{GivesOnly, StopsWithinOne, StreamsInput}
+use Rattle.bd_cli_scan.specs.Input.{GivesOnly, GivesWithinOne, StopsWithinOne, StreamsInput}
 use Rattle.bd_cli_scan.specs.Output.{Transcript, fault_text, output_before}
 use Rattle.bd_cli_scan.specs.Run.{Run}
 
@@ -112,8 +112,8 @@ dump_run_by form file = record {
   IsNext = λ text piece. ((text ≡ []) × (piece ≡ form.opening) × (file.after ≡ file.before))
       ⊎ (IsNextPiece form file text piece ⊎ IsClosing form file text piece);
   IsBegun = λ text. ((text ≡ []) × (file.after ≡ file.before))
-      ⊎ ((ds : List Doc) × (given : List ℕ) × AreDocuments form ds given × StopsWithinOne given file
-      × (file.after.failures ≡ file.before.failures) × IsOutputTo form ds text);
+      ⊎ ((ds : List Doc) × (given : List ℕ) × AreDocuments form ds given × GivesWithinOne file given
+      × IsOutputTo form ds text);
 }
 
 -- ---- `bsonfind`

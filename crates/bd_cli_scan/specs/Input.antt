@@ -46,6 +46,10 @@ StopsInside prefix part file =
 abbrev pub StopsWithinOne : List ℕ → Over Reader → Type 0
 StopsWithinOne prefix file = (part : List ℕ) × StopsInside prefix part file
 
+-- The reader gave these bytes, and no byte after the end of the next document, and no read failed.
+abbrev pub GivesWithinOne : Over Reader → List ℕ → Type 0
+GivesWithinOne file given = StopsWithinOne given file × (file.after.failures ≡ file.before.failures)
+
 -- All bytes of the reader are these, and it gave documents with lengths and no byte after the end of the next one
 -- (if there is more, that one has a bad length); or it gave these bytes, and no more were read for this
 -- reason: a read that exceeded the limit gave no more than was missing of its document.

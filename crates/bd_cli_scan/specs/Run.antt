@@ -1,9 +1,9 @@
 -- What a run of a command prints, for all commands.
 -- A command says which outputs its input may have, and where a run may stop before the end of one: that is its `Run`.
-use Rattle.std.specs.Prelude.{◌≡◌, ◌⊎◌, ℕ, List, [], ◌++◌}
+use Rattle.std.specs.Prelude.{◌≡◌, ◌⊎◌, ℕ, List, []}
 use Rattle.bd_io_device.specs.Devices.{WriteFailsAfter, WriteFailsWithin, Over, TakesText, Writer}
 use Rattle.bd_cli_scan.specs.{declared.output.Status.Status, declared.output.Status.TheVariants.Failed}
-use Rattle.bd_cli_scan.specs.Output.{Transcript, cannot_write, error_line, no_memory}
+use Rattle.bd_cli_scan.specs.Output.{Transcript, cannot_write, error_line, no_memory, refusal_output}
 
 -- what a run of a command may print
 pub record Run : Type 1 where
@@ -31,18 +31,18 @@ Prints program run out err status =
 
 -- ---- an output that is known before any of it is written
 
--- a run that prints this output, and takes no memory for it
-abbrev pub run_of : Transcript → Run
-run_of output = record {
+-- a run that prints this output; if memory runs out, that is after a text of which this is true
+abbrev pub run_until : (List ℕ → Type 0) → Transcript → Run
+run_until IsBegun output = record {
   IsOutput = λ o. o ≡ output;
   IsNext = λ text piece. (text ≡ []) × (piece ≡ output.out);
-  IsBegun = λ text. ⊥;
+  IsBegun = IsBegun;
 }
 
--- a run that prints this output, or stops anywhere in it
-abbrev pub partial_run : Transcript → Run
-partial_run output = record {
-  IsOutput = λ o. o ≡ output;
-  IsNext = λ text piece. (text ≡ []) × (piece ≡ output.out);
-  IsBegun = λ text. (rest : List ℕ) × (output.out ≡ text ++ rest);
-}
+-- a run that prints this output, and takes no memory for it
+abbrev pub run_of : Transcript → Run
+run_of = run_until (λ text. ⊥)
+
+-- a run that prints only an error, with this message, if memory does not run out before
+abbrev pub refusal_run : List ℕ → Run
+refusal_run message = run_until (λ text. text ≡ []) (refusal_output message)

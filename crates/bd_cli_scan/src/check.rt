@@ -1,9 +1,9 @@
 //! `check`: a line for each document of an input that has a fault.
 
-ghost use Rattle.std.specs.Prelude.{OnErr, OnOk};
+ghost use Rattle.std.specs.Prelude.{◌++◌, OnErr, OnOk};
 ghost use Rattle.bd_io_device.specs.Devices.{WriteFailsWithin, TakesText, over};
-ghost use Rattle.bd_cli_scan.specs.Check.{check_message, check_run, check_run_under, check_status};
-ghost use Rattle.bd_cli_scan.specs.Output.{reported_bytes};
+ghost use Rattle.bd_cli_scan.specs.Check.{check_counts, check_run, check_run_under, check_status};
+ghost use Rattle.bd_cli_scan.specs.Output.{reported_bytes, wrong_line};
 ghost use Rattle.bd_cli_scan.specs.inside.Scan.{check_texts, profile_of};
 ghost use Rattle.bd_bson_check.specs.declared.profile.Profile.TheVariants.{All};
 ghost use Rattle.bd_cli_scan.specs.Input.{ReadsNoFurther};
@@ -126,7 +126,7 @@ fn report_findings<E: Output>(
     err: &mut E,
 ) -> Status
     ensures { ReportsMessage (over E.state err.old err.new)
-        (check_message program.now (reported_bytes message.entry) documents faulty)
+        (wrong_line program.now (reported_bytes message.entry) ++ check_counts documents faulty)
         (check_status (reported_bytes message.entry) faulty) result }
 {
     let wanted = match (faulty, message) {
@@ -149,9 +149,9 @@ fn write_findings<E: Output>(
     err: &mut E,
 ) -> Result<(), DeviceFault>
     ensures ok { OnOk result (TakesText (over E.state err.old err.new)
-        (check_message program.now (reported_bytes message.entry) documents faulty)) }
+        (wrong_line program.now (reported_bytes message.entry) ++ check_counts documents faulty)) }
     ensures err { OnErr result (WriteFailsWithin (over E.state err.old err.new)
-        (check_message program.now (reported_bytes message.entry) documents faulty)) }
+        (wrong_line program.now (reported_bytes message.entry) ++ check_counts documents faulty)) }
 {
     write_end(program, message, u64::from(documents), DOCUMENTS, err)?;
     write_count(u64::from(faulty), FAULTY, err)

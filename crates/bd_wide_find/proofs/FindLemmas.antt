@@ -1,6 +1,6 @@
 -- The ends of a run of `find` over documents of all types.
 use Rattle.std.proofs.Common.{◌≡◌, ◌≤◌, arith, ℕ, List, [], length, Ok, refl, sym, ap, subst, inl, inr, ◌⊎◌, string_bytes}
-use Rattle.std.specs.Prelude.{Option, ℤ}
+use Rattle.std.specs.{Prelude.Option, Prelude.ℤ, Result.result_map_both}
 use Rattle.bd_value.specs.Tree.{Doc}
 use Rattle.bd_io_device.specs.Devices.{Over, Reader, Writer, between, read_words}
 use Rattle.bd_io_device.proofs.DevicesLemmas.{takes_none}
@@ -11,11 +11,11 @@ use Rattle.bd_cursor_request.specs.{Request.Request, declared.token.Token.Token,
 use Rattle.bd_cli_args.specs.FindOptions.{FindOptions}
 use Rattle.bd_cli_scan.specs.declared.input.InputFault.{InputFault}
 use Rattle.bd_cli_scan.specs.declared.input.InputFault.TheVariants as input_faults
-use Rattle.bd_cli_scan.specs.{Input.ReadsInput, Run.Prints, Run.ReportsMessage, Run.partial_run, declared.output.Status.Status}
+use Rattle.bd_cli_scan.specs.{Input.ReadsInput, Run.Prints, Run.ReportsMessage, Run.refusal_run, declared.output.Status.Status}
 use Rattle.bd_cli_scan.specs.declared.output.Status.TheVariants.{Failed}
-use Rattle.bd_cli_scan.specs.Output.{error_line, fault_text, no_memory, refusal_output}
+use Rattle.bd_cli_scan.specs.Output.{error_line, fault_text, no_memory}
 use Rattle.bd_cli_files.specs.Load.{ReportsLoadFault}
-use Rattle.bd_cli_find.specs.Find.{Printing, found_run, places_from, places_run}
+use Rattle.bd_cli_find.specs.Find.{Printing, batch_run, cursor_for, found_run, places_from}
 use Rattle.bd_cli_find.specs.Options.{refused_text}
 use Rattle.bd_cli_find.specs.declared.options.SearchFault.{SearchFault}
 use Rattle.bd_cli_find.specs.declared.options.SearchFault.TheVariants as faults
@@ -46,7 +46,7 @@ module _ {program : List ℕ} (printing : List ℕ → Printing) (text : List �
 
     -- a fault of the options was reported
     pub reports_fault : (IsMessage : List ℕ → Type 0) (case_of : (message : List ℕ) → IsMessage message → FindCase text options file)
-        → ((message : List ℕ) (is : IsMessage message) → case_run printing (case_of message is) ≡ partial_run (refusal_output message))
+        → ((message : List ℕ) (is : IsMessage message) → case_run printing (case_of message is) ≡ refusal_run message)
         → (file.after ≡ file.before) ⊎ ((bytes : List ℕ) × ReadsInput file (Ok bytes))
         → (fault : SearchFault) → ReportsAs IsMessage fault → IsReported program (between err_old err_new) status fault
         → Prints program (wide_find_run printing text options file) (between out out) (between err_old err_new) status
@@ -82,7 +82,7 @@ pub coded_runs : (table : List ℤ) (r : Request) (ds : List Doc) → DocumentsA
     → found_run printing size (renumber_request (table_codes table) text r, token) copy (coded_documents (number_coded (code table)) ds)
     ≡ found_run printing size (record r { text = text }, token) copy ds
 coded_runs table r ds are copy text printing size token =
-    ap (λ (q : Query). places_run printing size q token (places_from q token)) (coded_answers table r ds are copy text)
+    ap (λ (q : Query). batch_run printing size (result_map_both (cursor_for 1 q token) refused_text (places_from q token))) (coded_answers table r ds are copy text)
 
 -- ---- the dump itself
 

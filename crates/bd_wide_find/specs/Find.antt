@@ -10,7 +10,7 @@ use Rattle.bd_extjson_fault.specs.declared.json_fault.JsonFaultKind.TheVariants.
 use Rattle.bd_cursor_request.specs.{Request.Request, declared.token.Token.Token}
 use Rattle.bd_cli_args.specs.FindOptions.{FindOptions}
 use Rattle.bd_cli_args.specs.declared.wide_line.Form.{Form}
-use Rattle.bd_cli_scan.specs.{Input.ReadsInput, Run.Run, Run.partial_run, Output.fault_text, Output.refusal_output}
+use Rattle.bd_cli_scan.specs.{Input.ReadsInput, Run.Run, Run.refusal_run, Output.fault_text}
 use Rattle.bd_cli_find.specs.Find.{Around, Printing, around_documents, each_document, found_run, their_count}
 use Rattle.bd_cli_find.specs.Options.{json_fault_text}
 use Rattle.bd_wide_layout.specs.Layout.{LayoutView, closing, ending, opening, separator}
@@ -138,15 +138,15 @@ printing_of layout form bytes = printing_in layout form (IsLaidOutText layout by
 -- the run of a case, by what is printed of documents of a dump: its message alone, or the first batch of the documents that are found
 abbrev pub case_run : {text : List ℕ} {options : FindOptions} {file : Over Reader}
     → (List ℕ → Printing) → FindCase text options file → Run
-case_run printing (refused message _ _) = partial_run (refusal_output message)
-case_run printing (unread fault _ _) = partial_run (refusal_output (read_words fault))
-case_run printing (faulty bytes fault _ _ _) = partial_run (refusal_output (fault_text fault.document (fault_view fault)))
+case_run printing (refused message _ _) = refusal_run message
+case_run printing (unread fault _ _) = refusal_run (read_words fault)
+case_run printing (faulty bytes fault _ _ _) = refusal_run (fault_text fault.document (fault_view fault))
 case_run {text} {options} printing (plain a bytes ds _ _ _) =
     found_run (printing bytes) options.batch (a.request, a.token) bytes ds
 case_run {text} {options} printing (by_value a bytes _ _ over) =
     found_run (printing bytes) options.batch
     (request_by_value over.table over.requests.request over.requests.coded, over.requests.token) over.copy over.ds
-case_run printing (refused_over a bytes message _ _ _) = partial_run (refusal_output message)
+case_run printing (refused_over a bytes message _ _ _) = refusal_run message
 
 -- A run of `find`, by what it prints of documents of a dump, is that of its case; or memory ran out before anything was printed, and the
 -- file was read to its end or not at all.

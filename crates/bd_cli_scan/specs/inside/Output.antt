@@ -1,7 +1,7 @@
 -- What was written of a text.
 use Rattle.std.specs.Prelude.{◌≡◌, ℕ, List, Result, Ok}
 use Rattle.std.specs.Prelude.{Err}
-use Rattle.bd_io_device.specs.Devices.{WriteFailsWithin, Over, TakesPrefix, TakesText, Writer}
+use Rattle.bd_io_device.specs.Devices.{WriteFailsWithin, Over, TakesText, Writer}
 use Rattle.bd_cli_scan.specs.{declared.output.OutputFault.OutputFault}
 use Rattle.bd_cli_scan.specs.{declared.output.OutputFault.TheVariants.NoMemory}
 use Rattle.bd_cli_scan.specs.{declared.output.OutputFault.TheVariants.Unwritten}
@@ -21,8 +21,3 @@ WritesSome Is out (Err Unwritten) = (text : List ℕ) × Is text × WriteFailsWi
 abbrev pub WritesText : {A : Type 0} → List ℕ → Over Writer → Result A OutputFault → Type 0
 WritesText text out (Ok x) = TakesText out text
 WritesText text out (Err stopped) = StopsWriting text out stopped
-
--- The writer took a prefix of the text: memory ran out, or a write of the rest failed.
-abbrev pub StopsWithin : Over Writer → List ℕ → OutputFault → Type 0
-StopsWithin out text NoMemory = TakesPrefix out text
-StopsWithin out text Unwritten = WriteFailsWithin out text

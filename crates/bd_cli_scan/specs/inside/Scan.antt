@@ -11,7 +11,7 @@ use Rattle.bd_cli_scan.specs.{declared.input.InputFault.InputFault, declared.sca
 use Rattle.bd_cli_scan.specs.{declared.output.OutputFault.OutputFault}
 use Rattle.bd_cli_scan.specs.{declared.output.OutputFault.TheVariants.NoMemory}
 use Rattle.bd_cli_scan.specs.{declared.output.OutputFault.TheVariants.Unwritten}
-use Rattle.bd_cli_scan.specs.Input.{StopsInside, StopsWithinOne, StreamsInput}
+use Rattle.bd_cli_scan.specs.Input.{GivesWithinOne, StopsInside, StopsWithinOne, StreamsInput}
 use Rattle.bd_bson_check.specs.declared.fault.Fault as reported
 use Rattle.bd_cli_scan.specs.declared.input.InputFault.TheVariants as faults
 use Rattle.bd_cli_scan.specs.{Check.check_result_line, Dump.Form, Dump.IsPieceOf, Dump.closing_after, Output.input_words}
@@ -85,7 +85,7 @@ ScansDocuments texts file out scan =
 abbrev pub StopsScan : Texts → Over Reader → Over Writer → OutputFault → Type 0
 StopsScan texts file out NoMemory =
     (vs : List (Option Fault)) × (given : List ℕ) × (text : List ℕ) × AreVisited texts vs given text
-    × StopsWithinOne given file × (file.after.failures ≡ file.before.failures) × TakesText out text
+    × GivesWithinOne file given × TakesText out text
 StopsScan texts file out Unwritten =
     (vs : List (Option Fault)) × (given : List ℕ) × (text : List ℕ) × (piece : List ℕ)
     × AreVisited texts vs given text × WriteFailsAfter out text piece

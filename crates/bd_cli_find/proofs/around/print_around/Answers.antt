@@ -28,7 +28,7 @@ returns-in-Ok g c =
     let q = query_of c.args.dump c.args.search.request in
     let token = c.args.search.token in
     let o : IsFirstBatch c.args.size q token (Ok c.in-Ok.batch) = rw c.in-Ok.is at (rw c.new-session.ensures.dump at c.first_batch.ensures.batch) in
-    rw o.1 (subst (λ (dump : Dump). Prints c.args.program.now (batch_run (around_documents (g.P.PlacePrinter.is_text c.args.printer.now dump) (around_of c.args.around.now)) c.args.size (cursor_for 1 q token o.0))
+    rw o.1 (subst (λ (dump : Dump). Prints c.args.program.now (batch_run (around_documents (g.P.PlacePrinter.is_text c.args.printer.now dump) (around_of c.args.around.now)) c.args.size (Ok (cursor_for 1 q token o.0)))
     (over g.O.Output.state c.args.out.now c.print_batch.new.out) (over g.E.Output.state c.args.err.now c.print_batch.new.err)
     c.print_batch.result) (c.dump.ensures ∙ c.first_batch.ensures.dump ∙ c.new-session.ensures.dump) (c.print_batch.ensures c.args.size (cursor_for 1 q token o.0) o.2))
 

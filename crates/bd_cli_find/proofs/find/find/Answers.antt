@@ -3,7 +3,7 @@ use Rattle.std.specs.Prelude.{string_bytes}
 use Rattle.bd_cursor_request.specs.{Refused.reason_of, Request.Request, Request.request_view, declared.token.Token.Token}
 use Rattle.bd_cli_args.specs.FindOptions.{FindOptions}
 use Rattle.bd_bson_dump.specs.Collection.{bytes_of, documents}
-use Rattle.bd_cli_find.specs.{Options.refused_text, Find.output_of_dump}
+use Rattle.bd_cli_find.specs.{Options.refused_text, Find.batch_output, Find.cursor_over}
 use Rattle.bd_cli_find.proofs.BatchLemmas.{five_each}
 use Rattle.bd_cli_find.proofs.OptionsLemmas.{explain_refusal}
 use Rattle.bd_cli_scan.specs.Output.{error_line, refusal_output}
@@ -53,7 +53,7 @@ returns-in-Ok-load-clause-found g c =
     let printed = finds.found_named c.args.program.now c.args.options.now.batch ds (over g.O.Output.state c.args.out.now c.print_found.new.out)
     (over g.E.Output.state c.args.err.now c.print_found.new.err) c.print_found.result w bytes (rw batch at c.print_found.ensures) in
     finds.output_found c.args.options.now (over g.R.Input.state c.args.input.now c.load.new.input) bytes
-    (output_of_dump c.args.options.now.batch w bytes ds) (rw c.in-Ok.ensures.search loaded.0) (rw c.in-Ok.ensures.search (ds, None, loaded.1, refl)) printed
+    (batch_output c.args.options.now.batch ds (cursor_over w bytes ds None)) (rw c.in-Ok.ensures.search loaded.0) (rw c.in-Ok.ensures.search (ds, None, loaded.1, refl)) printed
 
 pub returns-in-Ok-load-clause-unread : goal.returns-in-Ok-load-clause-unread
 returns-in-Ok-load-clause-unread g c none = let taken = rw c.in-Ok.ensures.search at none in absurd (true≢false (sym taken))
