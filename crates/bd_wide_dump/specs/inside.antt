@@ -1,3 +1,4 @@
 pub mod Begins
 pub mod Finds
 pub mod Projects
+pub mod Tokens

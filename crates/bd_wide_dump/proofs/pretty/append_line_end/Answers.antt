@@ -1,22 +1,16 @@
-use Rattle.std.proofs.Common.{List, ℕ, subst}
-use Rattle.bd_extjson_text.proofs.BufferLemmas.{failed}
-use Rattle.bd_wide_dump.specs.Pretty.{line_end}
-use Rattle.bd_wide_dump.proofs.GoingLemmas as g
+use Rattle.std.proofs.Common.{◌≡◌, ◌+◌, ◌++◌, ℕ, List, length, take, ap, ◌∙◌, arith}
+use Rattle.bd_extjson_text.proofs.BufferLemmas.{lent}
+use Rattle.bd_wide_dump.proofs.PrettyLemmas.{block_put, tabs_of}
 use Rattle.bd_wide_dump.proofs.pretty.append_line_end.Goals as goal
 
-pub returns-in_err-at-2 : goal.returns-in_err-at-2
-returns-in_err-at-2 c =
-    let i = c.loop-rest_count in
-    let old = c.args.out.now.items in
-    let whole = line_end c.args.tabs in
-    failed c.args.end old c.append_few-in-loop-rest_count.new.out.items whole c.from_residual-in_err-at-2.result c.from_residual-in_err-at-2.ensures.0
-    (g.stopped old c.args.end whole i.out.items c.append_few-in-loop-rest_count.new.out.items _ i.at i.invariant c.in_err-at-2.ensures.text)
-
-pub loop-rest_count-preserved : goal.loop-rest_count-preserved
-loop-rest_count-preserved c =
-    let i = c.loop-rest_count in
-    let old = c.args.out.now.items in
-    let whole = line_end c.args.tabs in
-    let P : List ℕ → Type 0 = λ x. g.Going old c.args.end whole i.out.items i.at x in
-    let so_far = subst P (g.replicate_step i.rest_count 9 c.loop-rest_count-test.true) i.invariant in
-    g.goes_on old c.args.end whole i.out.items c.append_few-in-loop-rest_count.new.out.items _ _ i.at c.in_ok-at-2.at so_far c.in_ok-at-2.ensures.text.0 c.in_ok-at-2.ensures.text.1
+pub returns-then-tabs-lt-BLOCK-clause-text : goal.returns-then-tabs-lt-BLOCK-clause-text
+returns-then-tabs-lt-BLOCK-clause-text c =
+    let old = c.args.out.now in
+    let end : ℕ = c.args.end in
+    let k : ℕ = c.args.tabs + 1 in
+    let buffer = c.put_block.new.buffer in
+    let same : length buffer ≡ length old.items = omega (arith, c.put_block.auto.buffer, c.as_mut_slice.ensures.len, old.ok.0) in
+    let put = block_put old.len end k buffer old.items _ _ same old.ok.0 c.as_mut_slice.ensures.value (c.put_block.ensures k (omega arith)) in (
+      put ∙ ap (λ (l : List ℕ). take end old.items ++ l) (tabs_of c.args.tabs k (omega arith) (omega arith)),
+      rw (lent old.len buffer old.items same old.ok.0) (omega (arith, same)),
+    )
