@@ -42,7 +42,7 @@ class Packing(Room):
 
     def test_bad_and_missing(self) -> None:
         bad = run_package("pack", str(self.file(b'{"a":1}\n{"a":{"$numberDouble":"abc"}}\n', "lines")))
-        self.assertEqual((bad.returncode, bad.stderr), (1, "bsonwide: line 2, byte 5: bad wrapper\n1 objects packed\n"))
+        self.assertEqual((bad.returncode, bad.stderr), (1, 'bsonwide: line 2, byte 5: bad wrapper; write {"$numberDouble":".."}\n1 objects packed\n'))
         for words in (["--", "-no-such-file"], ["no-such-file"]):
             missing = run_package("pack", *words)
             self.assertEqual((missing.returncode, missing.stdout, missing.stderr), (1, "", f"bsonkit: cannot open {words[-1]}\n"))

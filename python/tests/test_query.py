@@ -228,7 +228,7 @@ class AsksForIds(Room):
 
     def test_bad_input(self) -> None:
         neither = "neither JSON nor 24 hexadecimal digits"
-        for line, problem in (("abc", neither), ('{"$numberInt":"3000000000"}', "number out of range"), ('{"$numberDouble":"1.5x"}', "bad wrapper"), ('1,"a":2', neither), ("00", neither)):
+        for line, problem in (("abc", neither), ('{"$numberInt":"3000000000"}', "number out of range"), ('{"$numberDouble":"1.5x"}', 'bad wrapper; write {"$numberDouble":".."}'), ('1,"a":2', neither), ("00", neither)):
             self.ids(["1", "", line], status=2, told=f"bsonkit: {self.room}/ids: line 3: {problem}\n")
         bad = self.file(PEOPLE.read_bytes() + DAMAGED, "bad.bson")
         half = self.file(gzip.compress(PEOPLE.read_bytes())[:-9], "half.bson.gz")

@@ -231,6 +231,7 @@ def wide_runs(failing: Failing) -> list[Run]:
         Run("dump of numbers, relaxed", ["dump", "-", "--jsonFormat", "relaxed"], b"".join(numbers), lines('{"d":1.0}\n' + DECIMAL_LINE + '{"a":1}\n'), "3 objects found\n"),
         Run("pack of numbers", ["pack", "-"], b"".join(number_lines), numbers, "3 objects packed\n"),
         Run("pack of a bare double", ["pack", "-"], b'{"d":1.0}\n{"d":1e999}', [DOUBLE], f"{NAME}: line 2, byte 5: number out of range\n1 objects packed\n", 1),
+        Run("pack of a word of mongosh", ["pack", "-"], b'{"d":1.0}\n{"a":ObjectId(1)}', [DOUBLE], f'{NAME}: line 2, byte 5: not JSON; write {{"$oid":".."}}\n1 objects packed\n', 1),
         # The numbers are 1 and 1.5, so their codes are 1 and 3, and that of 2 is 4.
         Run("find by value", ["find", "-", "--query", '{"d":{"$gte":1.5}}'], b"".join(numbers), number_lines[1:2], counted(1, "end", 1, CODED, query='{"d":{"$gte":{"$numberLong":"3"}}}')),
         Run("find of the greatest", ["find", "-", "--sort", '{"d":-1}', "--limit", "1"], b"".join(numbers), number_lines[1:2], counted(1, "end", 1, CODED, sort='{"d":-1}', limit=1)),
@@ -265,6 +266,7 @@ def bsonfind_runs(failing: Failing) -> list[Run]:
     )
     return [
         Run("pack of a double", ["pack", "-"], b'{"a":1}\n{"a":1.5}\n', [INT32], f"{NAME}: line 2, byte 5: not in the profile\n1 objects packed\n", 1),
+        Run("pack of a word of mongosh", ["pack", "-"], b'{"a":1}\n{"a":ObjectId(1)}', [INT32], f"{NAME}: line 2, byte 5: not JSON\n1 objects packed\n", 1),
         Run("find of 1", ["find", "one.bson", "--query", '{"a":1}'], b"", lines(INT32_LINE), counted(1, "end", 0, INT32, query='{"a":1}')),
         Run("find of 2", ["find", "one.bson", "--query", '{"a":2}'], b"", [], "0 documents, end\n"),
         found("of all", [], [0, 1, 2, 3, 4]),

@@ -1,6 +1,6 @@
 #!/usr/bin/env python3
 """Packs lines with dates and UUIDs as people write them by `bsonwide`, beside the model and Python's `datetime` and `uuid`; and asks
-queries and sorts as they stand in mongosh, of which `find` says what to write instead.
+queries and sorts, and packs lines, as they stand in mongosh, of which `find` and `pack` say what to write instead.
 
 usage: tests/wide/forms.py [PROGRAM] [LINES]     The last line is 'N passed, M failed'.
 """
@@ -73,13 +73,19 @@ def damaged(line: str) -> str:
     return line[:at] + RNG.choice(["", RNG.choice('"{}[]:,0-9Tx. $')]) + line[at + RNG.randrange(2) :]
 
 
+def words_of(fault: TextFault, text: str) -> str:
+    """What is wrong with a text, and what to write instead, by the model."""
+    more = advice(text.encode(), fault)
+    return f"{TEXT_WORDS[fault.number - 1]}{f'; {more}' if more else ''}"
+
+
 def packed(line: str) -> tuple[bytes, bytes]:
     """What `pack` writes and says of a line, by the model."""
     try:
         return encoded(read_document(line.encode(), is_wide=True)), b"1 objects packed\n"
     except TextFault as fault:
         at = "" if fault.number == NOT_A_DOCUMENT else f", byte {fault.at}"
-        return b"", f"bsonwide: line 1{at}: {TEXT_WORDS[fault.number - 1]}\n0 objects packed\n".encode()
+        return b"", f"bsonwide: line 1{at}: {words_of(fault, line)}\n0 objects packed\n".encode()
 
 
 def pack(text: str) -> tuple[bytes, bytes]:
@@ -99,8 +105,7 @@ def refused(option: str, text: str, is_wide: bool) -> tuple[int, bytes, str] | N
         read_document(text.encode(), is_wide)
     except TextFault as fault:
         at = "" if fault.number == NOT_A_DOCUMENT else f" byte {fault.at}:"
-        more = advice(text.encode(), fault)
-        return 1, b"", f"bsonwide: {option.removeprefix('--')}:{at} {TEXT_WORDS[fault.number - 1]}{f'; {more}' if more else ''}\n"
+        return 1, b"", f"bsonwide: {option.removeprefix('--')}:{at} {words_of(fault, text)}\n"
     return None
 
 
@@ -122,6 +127,8 @@ def try_advice(tests: Tests) -> None:
         ('{"a":{"$code":5}}', "byte 5: bad wrapper"), ('{"a":1}ObjectId(', "byte 7: text after the document"), ("{", "byte 1: not JSON"),
     ):  # fmt: skip
         tests.want(text, asked("--query", text) == (1, b"", f"bsonwide: query: {said}\n"), asked("--query", text))
+        line = f"bsonwide: line 2{', ' if said.startswith('byte') else ': '}{said}\n1 objects packed\n"
+        tests.want(f"line {text}", pack(f"{{}}\n{text}\n{{}}\n") == (bytes([5, 0, 0, 0, 0]), line.encode()), pack(f"{{}}\n{text}\n{{}}\n"))
     texts = [f'{{"a":{new}{word}"x")}}' for word in WORDS for new in ("", "new ", "[1,")]
     texts += [f"{{{blank()}{name}{blank()}:1}}" for name in ("a", "$or", "a.b", "_id", "5", "größe", "a-b", "a b")]
     texts += [f'{{"a":{{{blank()}"${name}"{blank()}:{of}}}}}' for name in (*NAMED, "code", "x") for of in ("5", '"no"', '{"a":1}', '"5","b":1')]
@@ -129,6 +136,7 @@ def try_advice(tests: Tests) -> None:
         for option, is_wide in (("--query", True), ("--sort", False)):
             wanted = refused(option, text, is_wide)
             tests.want(f"{option} {text}", wanted is None or asked(option, text) == wanted, (asked(option, text), wanted))
+        tests.want(f"pack {text}", pack(f"{text}\n") == packed(text), (pack(f"{text}\n"), packed(text)))
 
 
 def main() -> int:

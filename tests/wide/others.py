@@ -69,7 +69,8 @@ def try_corpus(tests: Tests, program: str, packs: bool) -> None:
             tests.want(f"corpus, pack: {case['case']}: {text}", (made.returncode, made.stdout.hex()) == (0, case["bytes"].lower()), made)
         if "refused" in case:
             made = run(program, "pack", case["refused"].encode())
-            is_refused = made.returncode == 1 and made.stderr.startswith((b"bsonwide: line 1, byte 5: bad wrapper\n", b"bsonwide: line 1, byte 5: number out of range\n"))
+            words = (b'bad wrapper; write {"$numberDecimal":".."}\n', b"number out of range\n")
+            is_refused = made.returncode == 1 and made.stderr.startswith(tuple(b"bsonwide: line 1, byte 5: " + it for it in words))
             tests.want(f"corpus, pack, refused: {case['case']}", is_refused and not made.stdout, made)
 
 

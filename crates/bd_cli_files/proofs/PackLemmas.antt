@@ -1,7 +1,8 @@
 -- What `pack` prints is determined.
-use Rattle.std.proofs.Common.{◌≡◌, ◌≤◌, ◌<◌, ℕ, suc, ◌+◌, List, [], ◌∷◌, ◌++◌, length, Bool, true, false, Option, Some, None, refl, sym, ap, ◌∙◌, subst, append_assoc, append-nil}
+use Rattle.std.proofs.Common.{◌≡◌, ◌≤◌, ◌<◌, ℕ, suc, ◌+◌, ◌-◌, List, [], ◌∷◌, ◌++◌, length, Bool, true, false, Option, Some, None, refl, sym, ap, ◌∙◌, subst, append_assoc, append-nil}
 use Rattle.std.proofs.Common.{arith, inl, inr, decimal, Ok, length-append, Result, Err, ap₂, true≢false}
 use Rattle.std.proofs.{lemmas.Bool.cases_lt, lemmas.List.Splits.slice_split_none, lemmas.List.Elements.All-nil, lemmas.Grind.flat_map-append}
+use Rattle.std.proofs.{Math.ListN.get_or-append, Math.Seq.get_or-append_seam}
 use Rattle.std.specs.Prelude.{◌⊎◌, if◌then◌else◌, is_ok, OnOk, IfSome, IsTrue, IsFalse, option_map}
 use Rattle.std.specs.{List.flat_map}
 use Rattle.std.specs.Io.KnownBytes.{Consumes, IsAtEnd}
@@ -15,10 +16,10 @@ use Rattle.bd_extjson_pack.specs.declared.line.LineFault.{LineFault}
 use Rattle.bd_cli_files.specs.{declared.pack.BadLine.BadLine, declared.pack.Packing.Packing}
 use Rattle.bd_cli_scan.specs.{declared.output.Status.Status, declared.output.Status.TheVariants.Failed}
 use Rattle.bd_cli_scan.specs.Input.{ReadsInput}
-use Rattle.bd_cli_scan.specs.Output.{Transcript, cannot_write, error_line, no_memory, wrong_line, wrong_status}
-use Rattle.bd_cli_files.specs.Pack.{Form, IsOutputBy, IsOutputOfPack, PacksBy, PacksLines, bad_line_text, byte_text, named, objects_packed, pack_output, pack_run_by, text_run}
+use Rattle.bd_cli_scan.specs.Output.{Transcript, cannot_write, error_line, no_memory, reported_bytes, wrong_line, wrong_status}
+use Rattle.bd_cli_files.specs.Pack.{Form, IsOutputBy, IsOutputOfPack, PacksBy, PacksLines, advised, advised_line, bad_line_text, byte_text, named, objects_packed, pack_output, pack_run_by, text_run}
 use Rattle.bd_cli_scan.specs.Run.{Prints, ReportsMessage}
-use Rattle.bd_cli_files.specs.inside.Pack.{ArePacked, IsTaken, PacksFirst}
+use Rattle.bd_cli_files.specs.inside.Pack.{ArePacked, IsAdvised, IsTaken, PacksFirst, packing_text}
 use Rattle.bd_io_lines.specs.Lines.{IsLine, is_empty_line, is_newline, text_lines}
 use Rattle.bd_io_lines.proofs.LinesLemmas.{line_grows, lines_apart}
 use Rattle.bd_io_device.specs.declared.reading.ReadFault.{ReadFault}
@@ -68,7 +69,7 @@ packs_once number (line ∷ lines) ds es bad other (inr (inr (full, (f, is, none
 pub packed_once : (input : Result (List ℕ) ReadFault) (s t : Transcript) → IsOutputOfPack input s → IsOutputOfPack input t → s ≡ t
 packed_once (Ok text) s t (ds, bad, packs, prints) (es, other, packed, showed) =
     let same = packs_once 1 (text_lines text) ds es bad other packs packed in
-    prints ∙ ap₂ (pack_output named) same.0 same.1 ∙ sym showed
+    prints ∙ ap₂ (pack_output named (text_lines text)) same.0 same.1 ∙ sym showed
 packed_once (Err fault) s t p q = p ∙ sym q
 
 -- ---- all lines are packed in some way
@@ -103,6 +104,32 @@ pub byte_is : (words : List ℕ) (kind : JsonFaultKind) (at : ℕ) → (kind ≡
 byte_is words kinds.NotADocument at other = absurd (other refl)
 byte_is words kind at other = refl
 
+-- ---- what to write instead in the bad line
+
+-- it is the same after one more line
+pub advised_more : (form : Form) (line : List ℕ) (lines : List (List ℕ)) (bad : Option BadLine) (advice : Option (List ℕ)) → IsAdvised form lines bad advice
+    → IsAdvised form (lines ++ line ∷ []) bad advice
+advised_more form line lines None advice is = _
+advised_more form line lines (Some bad) advice (there, is) = (
+  omega (arith, there, length-append lines (line ∷ [])),
+  is ∙ ap (λ (l : List ℕ). form.advice l bad.fault) (sym (get_or-append lines (line ∷ []) [] (bad.number - 1) there)),
+)
+
+-- the last line is the bad one
+pub advised_here : (form : Form) (line : List ℕ) (lines : List (List ℕ)) (fault : LineFault) (number : ℕ) (advice : Option (List ℕ)) → number ≡ length lines
+    → advice ≡ form.advice line fault → IsAdvised form (lines ++ line ∷ []) (Some (record { number = number + 1; fault = fault })) advice
+advised_here form line lines fault number advice counted is =
+    let last : number + 1 - 1 ≡ length lines = omega (arith, counted) in (
+      omega (arith, counted, length-append lines (line ∷ [])),
+      rw (last, get_or-append_seam lines line [] []) is,
+    )
+
+-- the message is that of the bad line
+packing_reports : (form : Form) (lines : List (List ℕ)) (bad : Option BadLine) (advice : Option (List ℕ)) → IsAdvised form lines bad advice
+    → option_map (λ bad. advised (bad_line_text bad) advice) bad ≡ option_map (advised_line form lines) bad
+packing_reports form lines None advice is = refl
+packing_reports form lines (Some bad) advice is = ap (λ (a : Option (List ℕ)). Some (advised (bad_line_text bad) a)) is.1
+
 -- ---- the end of a run
 
 -- these lines are all: the documents before the first bad line are all that are packed
@@ -116,7 +143,7 @@ module _ (form : Form) {P : Type 0} (program text : List ℕ) (packing : Packing
 
   -- the output, and that it is one of `pack` for the text
   abbrev output : Transcript
-  output = pack_output form packed.0 packing.bad
+  output = pack_output form (text_lines text) packed.0 packing.bad
 
   all_packed : PacksBy form 1 (text_lines text) packed.0 packing.bad
   all_packed = all_lines form (text_lines text) packed.0 packing.bad packed.1
@@ -125,13 +152,19 @@ module _ (form : Form) {P : Type 0} (program text : List ℕ) (packing : Packing
   is_output = (packed.0, packing.bad, all_packed, refl)
 
   -- the bad line, if any, and the count were reported
-  abbrev ReportsPacking : ℕ → Type 0
-  ReportsPacking count =
-      ReportsMessage (between err_old err_new) (wrong_line program (option_map bad_line_text packing.bad) ++ (decimal count ++ objects_packed)) (wrong_status (option_map bad_line_text packing.bad)) status
+  abbrev ReportsPacking : Option (List ℕ) → ℕ → Type 0
+  ReportsPacking message count =
+      ReportsMessage (between err_old err_new) (wrong_line program message ++ (decimal count ++ objects_packed)) (wrong_status message) status
 
-  pub prints_packing : TakesText (between out_old out_new) packing.bytes.items → ReportsPacking packing.count → PrintsText
+  pub prints_packing : TakesText (between out_old out_new) packing.bytes.items → ReportsPacking (packing_text packing) packing.count → PrintsText
   prints_packing wrote reported =
-      inl (output, is_output, subst (TakesText (between out_old out_new)) packed.2 wrote, subst ReportsPacking packed.3 reported)
+      let same = packing_reports form (text_lines text) packing.bad (reported_bytes packing.advice) packed.5 in
+      inl (
+        output,
+        is_output,
+        subst (TakesText (between out_old out_new)) packed.2 wrote,
+        subst (ReportsPacking (option_map (advised_line form (text_lines text)) packing.bad)) packed.3 (subst (λ (m : Option (List ℕ)). ReportsPacking m packing.count) same reported),
+      )
 
   pub prints_unwritten : WriteFailsWithin (between out_old out_new) packing.bytes.items → ReportsMessage (between err_old err_new) (error_line program cannot_write) Failed status → PrintsText
   prints_unwritten failed reported =
@@ -269,4 +302,4 @@ all_given (Some xs) (Some rest) given all end = sym (all ∙ ap (λ x. given ++ 
 pub packed_some : (text : List ℕ) → (output : Transcript) × IsOutputOfPack (Ok text) output
 packed_some text =
     let w = packs_some 1 (text_lines text) in
-    (pack_output named w.0 w.1, (w.0, w.1, w.2, refl))
+    (pack_output named (text_lines text) w.0 w.1, (w.0, w.1, w.2, refl))

@@ -1,5 +1,5 @@
 -- What `pack` prints for an input.
-use Rattle.std.specs.Prelude.{◌≡◌, ◌⊎◌, ℕ, suc, List, [], ◌∷◌, ◌++◌, length, codes, decimal, IsTrue, IsFalse}
+use Rattle.std.specs.Prelude.{◌≡◌, ◌⊎◌, ℕ, suc, ◌-◌, List, [], ◌∷◌, ◌++◌, length, slice_index_or, codes, decimal, IsTrue, IsFalse}
 use Rattle.std.specs.Prelude.{Option, Some, None, Result, Ok, Err, option_map}
 use Rattle.std.specs.List.{flat_map}
 use Rattle.bd_value.specs.Tree.{Doc}
@@ -25,10 +25,12 @@ pub record Form : Type 1 where
   pub bson : Document → List ℕ
   -- The line is not packed, for this reason.
   pub IsBad : List ℕ → LineFault → Type 0
+  -- what to write instead in a line that is not packed, for this reason, if that is known
+  pub advice : List ℕ → LineFault → Option (List ℕ)
 
 -- the form of `bsonfind`: documents of the nineteen kinds
 abbrev pub named : Form
-named = record { Document = Doc; IsPackable = IsPackable; bson = plain; IsBad = IsBad }
+named = record { Document = Doc; IsPackable = IsPackable; bson = plain; IsBad = IsBad; advice = λ line fault. None }
 
 -- From lines whose numbers begin at `number`: the documents before the first bad line, and that line,
 -- if any. Lines of white space are skipped.
@@ -55,20 +57,30 @@ line_fault_text faults.TooLong = codes ": document too long"
 abbrev pub bad_line_text : BadLine → List ℕ
 bad_line_text bad = codes "line " ++ (decimal bad.number ++ line_fault_text bad.fault)
 
+-- a message, and after it what to write instead, if that is known
+abbrev pub advised : List ℕ → Option (List ℕ) → List ℕ
+advised message None = message
+advised message (Some advice) = message ++ (codes "; " ++ advice)
+
+-- the message of a bad line among these lines, and what to write instead
+abbrev pub advised_line : Form → List (List ℕ) → BadLine → List ℕ
+advised_line form lines bad =
+    advised (bad_line_text bad) (form.advice (slice_index_or lines (bad.number - 1) []) bad.fault)
+
 -- the end of the line of counts of `pack`, after the number of documents packed
 abbrev pub objects_packed : List ℕ
 objects_packed = codes " objects packed" ++ 10 ∷ []
 
--- the output of `pack`: the BSON of the documents before the first bad line, the message of that line,
+-- the output of `pack` for lines: the BSON of the documents before the first bad line, the message of that line,
 -- and how many were packed
-abbrev pub pack_output : (form : Form) → List form.Document → Option BadLine → Transcript
-pack_output form ds bad = output_before (flat_map form.bson ds) (option_map bad_line_text bad)
+abbrev pub pack_output : (form : Form) → List (List ℕ) → List form.Document → Option BadLine → Transcript
+pack_output form lines ds bad = output_before (flat_map form.bson ds) (option_map (advised_line form lines) bad)
     (decimal (length ds) ++ objects_packed)
 
 -- This is the output of `pack` for a text, or for an input that was not read completely.
 abbrev pub IsOutputBy : Form → Result (List ℕ) ReadFault → Transcript → Type 0
 IsOutputBy form (Ok text) output = (ds : List form.Document) × (bad : Option BadLine)
-    × PacksBy form 1 (text_lines text) ds bad × (output ≡ pack_output form ds bad)
+    × PacksBy form 1 (text_lines text) ds bad × (output ≡ pack_output form (text_lines text) ds bad)
 IsOutputBy form (Err fault) output = output ≡ refusal_output (read_words fault)
 
 -- A run of `pack` for this text, which takes no memory.

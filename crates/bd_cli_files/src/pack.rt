@@ -1,14 +1,14 @@
 //! `pack`: the documents in lines of text, as BSON.
 
-ghost use Rattle.std.specs.Prelude.{◌≡◌, ◌++◌, ◌∷◌, ◌+◌, ◌≤◌, ℕ, List, [], Err, IfErr, IfOk, IfSome, None, OnErr, OnOk, Ok, codes, length, decimal, option_map};
+ghost use Rattle.std.specs.Prelude.{◌≡◌, ◌++◌, ◌∷◌, ◌+◌, ◌≤◌, ℕ, List, [], Err, IfErr, IfOk, IfSome, None, OnErr, OnOk, Ok, codes, length, decimal};
 ghost use Rattle.bd_value.specs.Limits.{longest_input};
 ghost use Rattle.bd_io_device.specs.Devices.{TakesText, WriteFailsWithin, over};
 ghost use Rattle.bd_io_lines.specs.Lines.{text_lines};
 ghost use Rattle.bd_cli_scan.specs.Input.{ReadsInput, ReadsNoFurther};
-ghost use Rattle.bd_cli_scan.specs.Output.{error_line, wrong_line, wrong_status};
+ghost use Rattle.bd_cli_scan.specs.Output.{error_line, reported_bytes, wrong_line, wrong_status};
 ghost use Rattle.bd_cli_scan.specs.Run.{Prints, ReportsMessage};
-ghost use Rattle.bd_cli_files.specs.Pack.{Form, bad_line_text, byte_text, line_fault_text, named, objects_packed, pack_run, pack_run_by, text_run};
-ghost use Rattle.bd_cli_files.specs.inside.Pack.{ArePacked, IsTaken};
+ghost use Rattle.bd_cli_files.specs.Pack.{Form, advised, bad_line_text, byte_text, line_fault_text, named, objects_packed, pack_run, pack_run_by, text_run};
+ghost use Rattle.bd_cli_files.specs.inside.Pack.{ArePacked, IsTaken, packing_text};
 
 use bd_cli_scan::Status;
 use bd_cli_scan::output::{
@@ -55,6 +55,10 @@ pub trait LinePacker {
         ensures bad { IfOk result (λ o. IfSome o (λ f.
             form.IsBad line.now f × (out.new.items ≡ out.old.items))) }
         ensures err { OnErr result (out.new.items ≡ out.old.items) };
+
+    /// What to write instead in a line that is not packed, for this reason, if that is known.
+    fn advice(&self, line: &[u8], fault: LineFault) -> Option<&'static str>
+        ensures { reported_bytes result ≡ form.advice line.now fault };
 }
 
 /// Reads the whole input, and writes the BSON of its lines' documents, up to the first line that is not packed.
@@ -86,6 +90,11 @@ impl LinePacker for Packer {
     #[inline(always)]
     fn pack_line(&mut self, line: &[u8], out: &mut Vec<u8>) -> Result<Option<LineFault>, NoMemory> {
         Packer::pack_line(self, line, out)
+    }
+
+    #[inline(always)]
+    fn advice(&self, _line: &[u8], _fault: LineFault) -> Option<&'static str> {
+        None
     }
 }
 
@@ -165,6 +174,8 @@ struct Packing<P> {
     /// How many lines have ended.
     lines: u64,
     bad: Option<BadLine>,
+    /// What to write instead in the bad line, if that is known.
+    advice: Option<&'static str>,
 }
 
 impl<P: LinePacker> Packing<P> {
@@ -179,6 +190,7 @@ impl<P: LinePacker> Packing<P> {
             count: 0,
             lines: 0,
             bad: None,
+            advice: None,
         }
     }
 
@@ -235,6 +247,7 @@ impl<P: LinePacker> Packing<P> {
             Some(fault) => {
                 let number = self.lines;
                 self.bad = Some(BadLine { number, fault });
+                self.advice = self.packer.advice(line, fault);
             }
         }
         Ok(())
@@ -244,13 +257,16 @@ impl<P: LinePacker> Packing<P> {
 /// Reports how lines were packed, after the bytes on standard output. It takes no memory.
 fn report_packing<P, E: Output>(program: &str, packing: &Packing<P>, err: &mut E) -> Status
     ensures { ReportsMessage (over E.state err.old err.new)
-        (wrong_line program.now (option_map bad_line_text packing.now.bad)
+        (wrong_line program.now (packing_text packing.now)
         ++ (decimal packing.now.count ++ objects_packed))
-        (wrong_status (option_map bad_line_text packing.now.bad)) result }
+        (wrong_status (packing_text packing.now)) result }
 {
     match packing.bad {
         None => report_end(program, None, packing.count, OBJECTS_PACKED, err),
-        Some(bad) => status_of(write_end(program, bad, packing.count, err), Status::Failed),
+        Some(bad) => status_of(
+            write_end(program, bad, packing.advice, packing.count, err),
+            Status::Failed,
+        ),
     }
 }
 
@@ -259,29 +275,58 @@ fn report_packing<P, E: Output>(program: &str, packing: &Packing<P>, err: &mut E
 fn write_end<E: Output>(
     program: &str,
     bad: BadLine,
+    advice: Option<&str>,
     count: u64,
     err: &mut E,
 ) -> Result<(), DeviceFault>
     ensures ok { OnOk result (TakesText (over E.state err.old err.new)
-        (error_line program.now (bad_line_text bad) ++ (decimal count ++ objects_packed))) }
+        (error_line program.now (advised (bad_line_text bad) (reported_bytes advice.entry))
+        ++ (decimal count ++ objects_packed))) }
     ensures err { OnErr result (WriteFailsWithin (over E.state err.old err.new)
-        (error_line program.now (bad_line_text bad) ++ (decimal count ++ objects_packed))) }
+        (error_line program.now (advised (bad_line_text bad) (reported_bytes advice.entry))
+        ++ (decimal count ++ objects_packed))) }
 {
-    write_bad_line(program, bad, err)?;
+    write_bad_line(program, bad, advice, err)?;
     write_count(count, OBJECTS_PACKED, err)
 }
 
 /// Writes the line of a bad line.
 #[tactic(auto, using(bd_cli_scan::proofs::OutputLemmas::taking))]
-fn write_bad_line<E: Output>(program: &str, bad: BadLine, err: &mut E) -> Result<(), DeviceFault>
-    ensures ok { OnOk result
-        (TakesText (over E.state err.old err.new) (error_line program.now (bad_line_text bad))) }
-    ensures err { OnErr result (WriteFailsWithin
-        (over E.state err.old err.new) (error_line program.now (bad_line_text bad))) }
+fn write_bad_line<E: Output>(
+    program: &str,
+    bad: BadLine,
+    advice: Option<&str>,
+    err: &mut E,
+) -> Result<(), DeviceFault>
+    ensures ok { OnOk result (TakesText (over E.state err.old err.new)
+        (error_line program.now (advised (bad_line_text bad) (reported_bytes advice.entry)))) }
+    ensures err { OnErr result (WriteFailsWithin (over E.state err.old err.new)
+        (error_line program.now (advised (bad_line_text bad) (reported_bytes advice.entry)))) }
 {
     write_pair(program, ": ", err)?;
-    write_message(bad, err)?;
+    write_advised(bad, advice, err)?;
     write_all(err, b"\n")
+}
+
+/// Writes which line is bad, why, and what to write instead, if that is known.
+#[tactic(auto, using(bd_cli_scan::proofs::OutputLemmas::taking))]
+fn write_advised<E: Output>(
+    bad: BadLine,
+    advice: Option<&str>,
+    err: &mut E,
+) -> Result<(), DeviceFault>
+    ensures ok { OnOk result (TakesText (over E.state err.old err.new)
+        (advised (bad_line_text bad) (reported_bytes advice.entry))) }
+    ensures err { OnErr result (WriteFailsWithin (over E.state err.old err.new)
+        (advised (bad_line_text bad) (reported_bytes advice.entry))) }
+{
+    match advice {
+        None => write_message(bad, err),
+        Some(advice) => {
+            write_message(bad, err)?;
+            write_pair("; ", advice, err)
+        }
+    }
 }
 
 /// Writes which line is bad, and why.

@@ -5,6 +5,7 @@ ghost use Rattle.bd_wide_cli.specs.Pack.{all_types};
 use bd_cli_files::pack::LinePacker;
 use bd_extjson_pack::LineFault;
 use bd_value::NoMemory;
+use bd_wide_advice::advice_at;
 use bd_wide_pack::WidePacker;
 
 /// Packs lines of documents of all types.
@@ -20,5 +21,12 @@ impl LinePacker for WideLinePacker {
     #[inline(always)]
     fn pack_line(&mut self, line: &[u8], out: &mut Vec<u8>) -> Result<Option<LineFault>, NoMemory> {
         self.packer.pack_line(line, out)
+    }
+
+    fn advice(&self, line: &[u8], fault: LineFault) -> Option<&'static str> {
+        match fault {
+            LineFault::Unread(fault) => advice_at(line, fault),
+            LineFault::TooLong => None,
+        }
     }
 }

@@ -1,22 +1,18 @@
 -- What a query and the options of `find` request of documents of all types, and the messages for their texts.
-use Rattle.std.specs.Prelude.{ℕ, List, [], ◌++◌, codes, drop, Option, Some, None, Result, Ok}
+use Rattle.std.specs.Prelude.{ℕ, List, [], codes, drop, Option, Some, None, Result, Ok}
 use Rattle.std.specs.Option.{ok_or}
 use Rattle.bd_value.specs.Tree.{Doc}
 use Rattle.bd_extjson.specs.Read.{reading}
 use Rattle.bd_extjson_fault.specs.{TextFault.text_fault, declared.json_fault.JsonFault.JsonFault}
 use Rattle.bd_cursor_request.specs.{Refused.then_part, Request.Request, declared.token.Token.Token}
 use Rattle.bd_cli_args.specs.FindOptions.{FindOptions}
+use Rattle.bd_cli_files.specs.Pack.{advised}
 use Rattle.bd_cli_find.specs.Options.{json_fault_text, search_of}
 use Rattle.bd_wide_advice.specs.Advice.{advice_of}
 
--- what to write in place of what is refused, after the message
-abbrev pub after_message : Option (List ℕ) → List ℕ
-after_message None = []
-after_message (Some advice) = codes "; " ++ advice
-
 -- the message for a text that is refused, after the name of its option: that of `bsonfind`, and what to write instead, if that is known
 abbrev pub advised_text : List ℕ → List ℕ → JsonFault → List ℕ
-advised_text name text fault = json_fault_text name fault ++ after_message (advice_of fault.kind (drop fault.at text))
+advised_text name text fault = advised (json_fault_text name fault) (advice_of fault.kind (drop fault.at text))
 
 -- the document of a sort, or the message of the fault of its text; without a text it is `{}`
 abbrev pub sort_in : Option (List ℕ) → Result Doc (List ℕ)

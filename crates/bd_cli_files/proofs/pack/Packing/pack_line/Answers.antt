@@ -3,7 +3,7 @@ use Rattle.bd_cli_files.proofs.PackLemmas as packs
 use Rattle.bd_cli_files.proofs.pack.Packing.pack_line.Goals as goal
 
 pub returns-in-None-clause-packs : goal.returns-in-None-clause-packs
-returns-in-None-clause-packs g c lines (ds, first, bytes, counted, numbered) =
+returns-in-None-clause-packs g c lines (ds, first, bytes, counted, numbered, advised) =
     let line = c.args.line.now in
     let good : c.args.self.now.bad ≡ None = search rules in
     let none : c.pack_line.result ≡ Ok None = search rules in
@@ -14,10 +14,11 @@ returns-in-None-clause-packs g c lines (ds, first, bytes, counted, numbered) =
       packs.one_more_document g.P.LinePacker.form ds d.0 _ _ bytes d.2,
       omega (arith, counted, length-append ds (d.0 ∷ [])),
       omega (arith, numbered, length-append lines (line ∷ [])),
+      packs.advised_more g.P.LinePacker.form line lines _ _ advised,
     )
 
 pub returns-in-Some-clause-packs : goal.returns-in-Some-clause-packs
-returns-in-Some-clause-packs g c lines (ds, first, bytes, counted, numbered) =
+returns-in-Some-clause-packs g c lines (ds, first, bytes, counted, numbered, advised) =
     let line = c.args.line.now in
     let good : c.args.self.now.bad ≡ None = search rules in
     let before = rw good at first in
@@ -27,4 +28,5 @@ returns-in-Some-clause-packs g c lines (ds, first, bytes, counted, numbered) =
       rw bad.1 bytes,
       counted,
       omega (arith, numbered, length-append lines (line ∷ [])),
+      packs.advised_here g.P.LinePacker.form line lines c.in-Some.fault _ _ numbered c.advice-self.ensures,
     )
