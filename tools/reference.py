@@ -35,7 +35,7 @@ FAULTS_OF_TEXTS = "bd_extjson_fault"
 IMPORT = re.compile(r"^ *(?:pub |ghost )*use ([\w.]+?)(?:\.\{([^}]*)\}| as (\w+))?;?$", re.M)
 # The start of a definition, of a block of methods, of an item of code and of a clause; the rest of the head of a function.
 DEFINED = re.compile(r" *(?:abbrev |unfoldable )?pub (?!mod |use )(?:record |data )?([^\s:]+)")
-BLOCK = re.compile(r"(?:pub (trait)|impl) (?:([\w:]+) for )?&?(\w+)")
+BLOCK = re.compile(r"(?:pub (trait)|impl) (?:([\w:]+) for )?&?(?:mut )?(\w+)")
 ITEM = re.compile(r" *(?:(pub )|pub\(\w+\) )?(?:const |unsafe )*(fn|struct|enum|trait|const|type|ghost) (?!use |fn )(\w+)")
 CLAUSE = re.compile(r"(?:\s+//.*)*\s+(requires|ensures)(\*)?(?: (\w+))? \{")
 TOKEN = re.compile(r"""//.*|"(?:\\.|[^"\\])*"|'(?:\\.|[^'\\])'|[{}]""")

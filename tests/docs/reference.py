@@ -133,7 +133,7 @@ def inside() -> Iterator[tuple[bool, str]]:
     reached = reference.reached()
     for path, it in reference.definitions("specs").items():
         name = path.rpartition(".")[2]
-        if not (name.endswith("-prop") or "◌" in name or it.file.stem in ("Unique", "Sound") or it.crate == "bd_io_stdout" or name == "LeafFits"):
+        if not (name.endswith("-prop") or "◌" in name or it.file.stem in ("Unique", "Sound") or it.crate == "bd_io_stdout" or name in ("LeafFits", "TakesPrefix")):
             is_inside = "inside" in it.file.parts
             yield is_inside != (path in reached), f"{path} is {'cited from outside' if is_inside else 'cited inside alone'}"
 

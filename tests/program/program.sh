@@ -245,33 +245,34 @@ nested 200 >nested.bson
 expect '200 levels in 1 MiB of stack' 0 "$(copies 199 '{"a":'){}$(copies 199 '}')" '1 objects found'
 
 # Where the system does not let the stack grow, a program has 132 KiB of it. The words of the environment are there too.
-in_stack() {
+in_96_kib() {
 	# shellcheck disable=SC3045 # each sh that is in use has -s
-	ulimit -s "$1"
-	shift
+	ulimit -s 96
 	env -i "$@" >out 2>err
 	echo $? >status
 }
-(in_stack 120 "$program" find int32.bson --query '{"a":1}' --sort '{"a":1}' --index a)
-expect 'find in 120 KiB of stack' 0 "$int32" "$(told 1 end int32.bson 0 --query '{"a":1}' --sort '{"a":1}')"
-echo '{"find":{}}' | (in_stack 120 "$program" serve five.bson)
-expect 'serve in 120 KiB of stack' 0 "$first" ''
-# What the system gives at the start is 132 KiB.
+(in_96_kib "$program" find int32.bson --query '{"a":1}' --sort '{"a":1}' --index a)
+expect 'find in 96 KiB of stack' 0 "$int32" "$(told 1 end int32.bson 0 --query '{"a":1}' --sort '{"a":1}')"
+echo '{"find":{}}' | (in_96_kib "$program" serve five.bson)
+expect 'serve in 96 KiB of stack' 0 "$first" ''
 not_json='{"ok":false,"layer":"json","number":{"$numberInt":"1"},"text":"not JSON","at":{"$numberLong":"8"}}'
 for name in bsonfind bsonwide; do
-	(in_stack 132 "$root/$name" find - --query '{"a":') <int32.bson
-	expect "$name: a bad query in 132 KiB of stack" 1 '' "$name: query: byte 5: not JSON"
-	printf '{"find":\n{"find":{}}\n' | (in_stack 132 "$root/$name" serve five.bson)
-	expect "$name: a bad command in 132 KiB of stack" 0 "$not_json
+	(in_96_kib "$root/$name" find - --query '{"a":') <int32.bson
+	expect "$name: a bad query in 96 KiB of stack" 1 '' "$name: query: byte 5: not JSON"
+	printf '{"find":\n{"find":{}}\n' | (in_96_kib "$root/$name" serve five.bson)
+	expect "$name: a bad command in 96 KiB of stack" 0 "$not_json
 $first" ''
+	echo '{"a":' | (in_96_kib "$root/$name" pack -)
+	expect "$name: a bad line in 96 KiB of stack" 1 '' "$name: line 1, byte 5: not JSON
+0 objects packed"
 done
 double='{"a":{"$numberDouble":"1.5"}}'
 echo "$double" | "$root/bsonwide" pack - >double.bson 2>pack_err
-(in_stack 120 "$root/bsonwide" find - --query '{"a":{"$gt":1}}' --sort '{"a":1}' --bson) <double.bson
+(in_96_kib "$root/bsonwide" find - --query '{"a":{"$gt":1}}' --sort '{"a":1}' --bson) <double.bson
 : >err # its token is in tests/program/tokens.txt
-expect 'bsonwide: find by value in 120 KiB of stack' 0 @double.bson ''
-echo '{"find":{"a":1.5},"sort":{"a":1}}' | (in_stack 132 "$root/bsonwide" serve double.bson)
-expect 'bsonwide: serve by value in 132 KiB of stack' 0 "$first" ''
+expect 'bsonwide: find by value in 96 KiB of stack' 0 @double.bson ''
+echo '{"find":{"a":1.5},"sort":{"a":1}}' | (in_96_kib "$root/bsonwide" serve double.bson)
+expect 'bsonwide: serve by value in 96 KiB of stack' 0 "$first" ''
 
 cp "$shop.bson" some.bson
 doublings=6

@@ -16,6 +16,9 @@ use std::alloc::Global;
 
 /// Reads the whole input, and writes the reply to each command, before a later read of the commands. No command is read if the
 /// input is not a dump.
+///
+/// It is not inlined, so that the other commands do not need its stack.
+#[inline(never)]
 pub(crate) fn serve<F: Input, C: Input, O: Output, E: Output>(
     alloc: Global,
     program: &str,

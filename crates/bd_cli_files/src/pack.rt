@@ -26,6 +26,9 @@ use std::alloc::Global;
 const OBJECTS_PACKED: &str = " objects packed\n";
 
 /// Reads the whole input, and writes the BSON of its lines' documents, up to the first line that is no document.
+///
+/// It is not inlined: a packer takes 16 KiB of the stack, which the other commands do not need.
+#[inline(never)]
 pub fn pack<R: Input, O: Output, E: Output>(
     alloc: Global,
     program: &str,
@@ -37,7 +40,7 @@ pub fn pack<R: Input, O: Output, E: Output>(
         (over O.state out.old out.new) (over E.state err.old err.new) result }
     ensures stops_reading { ReadsNoFurther R.read_gives input.old input.new }
 {
-    pack_by(alloc, program, Packer::new(alloc), input, out, err)
+    pack_by(alloc, program, &mut Packer::new(alloc), input, out, err)
 }
 
 /// What packs lines.
@@ -63,7 +66,7 @@ pub trait LinePacker {
 
 /// Reads the whole input, and writes the BSON of its lines' documents, up to the first line that is not packed.
 ///
-/// It is not inlined: a packer takes 16 KiB of the stack, which the other commands do not need.
+/// It is not inlined: it takes 16 KiB of the stack, which the other commands do not need.
 #[inline(never)]
 pub fn pack_by<P: LinePacker + Drop, R: Input, O: Output, E: Output>(
     alloc: Global,
@@ -81,6 +84,16 @@ pub fn pack_by<P: LinePacker + Drop, R: Input, O: Output, E: Output>(
     match pack_input(alloc, input, &mut packing) {
         Ok(()) => write_packing(program, &packing, out, err),
         Err(fault) => report_read_fault(program, fault, err),
+    }
+}
+
+/// A borrowed packer, which is as small as a reference.
+impl<P: LinePacker> LinePacker for &mut P {
+    ghost form = { P.form };
+
+    #[inline(always)]
+    fn pack_line(&mut self, line: &[u8], out: &mut Vec<u8>) -> Result<Option<LineFault>, NoMemory> {
+        LinePacker::pack_line(&mut **self, line, out)
     }
 }
 

@@ -19,6 +19,9 @@ use std::alloc::Global;
 
 /// Reads the whole input unless an option is refused, and prints the first batch of the requested documents;
 /// without a size, all of them. Nothing is written to standard output if the input is not a dump.
+///
+/// It is not inlined, so that the other commands do not need its stack.
+#[inline(never)]
 pub fn find<R: Input, O: Output, E: Output>(
     alloc: Global,
     program: &str,

@@ -118,14 +118,15 @@ fn run_command<P: Program>(
 }
 
 /// The text of a query in the file of that name. A fault is reported, and has this status.
+// Not inlined: it takes 16 KiB of the stack, which a run does not need afterwards.
+#[inline(never)]
 fn query_in(rt: &HostRuntime, program: &str, name: &str) -> Result<Vec<u8>, Status> {
     let mut err = SystemOutput::new(rt.stderr());
     if is_standard_input(name) {
-        let mut reader = rt.reader();
         return read_query(
             rt.alloc(),
             program,
-            &mut SystemInput::new(&mut reader),
+            &mut SystemInput::new(rt.stdin()),
             &mut err,
         );
     }
@@ -145,9 +146,7 @@ fn run_asking<P: Program>(
 ) -> Status {
     let file = program.file(command);
     if is_standard_input(file) {
-        // It has a buffer inside, so only a reference to it is passed on.
-        let mut reader = rt.reader();
-        return run_over(rt, program, command, query, &mut reader, output_buffer);
+        return run_over(rt, program, command, query, rt.stdin(), output_buffer);
     }
     let Ok(opened) = fs::open(rt, file) else {
         return report_open_fault(program.name(), file, &mut SystemOutput::new(rt.stderr()));
@@ -210,10 +209,9 @@ fn run_reading<P: Program, I: Input>(
     file: &mut I,
     output_buffer: &Waiting,
 ) -> Status {
-    let mut reader = rt.reader();
-    // They are read in blocks anyway.
+    // They are read in blocks, so no reader with a buffer of its own, which is on the stack, is needed.
     let mut commands = SystemInput::new(FlushingInput {
-        reader: SystemInput::new(&mut reader),
+        reader: SystemInput::new(rt.stdin()),
         output_buffer,
     });
     let (mut out, mut err) = outputs(rt, output_buffer);

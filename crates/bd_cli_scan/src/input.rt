@@ -30,6 +30,9 @@ pub enum InputFault {
 ///
 /// `Device` after a failed read, and no read is made after it; `TooLong` if there is one more byte, with no read if that is known before;
 /// `NoMemory`.
+///
+/// It is not inlined: it takes 16 KiB of the stack, which its caller does not need for long.
+#[inline(never)]
 pub fn read_input<R: Input>(alloc: Global, input: &mut R) -> Result<Vec<u8>, ReadFault>
     ensures input { MatchResult result (λ bytes.
         ReadsInput (over R.state input.old input.new) (Ok bytes.items)) (λ fault.

@@ -7,13 +7,11 @@ ghost use Rattle.bd_wide_cli.specs.Command.{ReadsNoCommands, RunsCommand, is_ser
 use crate::dump::dump;
 use crate::find::find;
 use crate::output::PROGRAM;
-use crate::pack::WideLinePacker;
+use crate::pack::pack;
 use bd_cli_args::{FindOptions, Form, LayoutOptions};
-use bd_cli_files::pack::pack_by;
 use bd_cli_scan::Status;
 use bd_cli_scan::check::check_all_types;
 use bd_io_device::{Input, Output};
-use bd_wide_pack::WidePacker;
 use bd_wide_service::serve::serve;
 use std::alloc::Global;
 
@@ -60,10 +58,7 @@ pub fn run<R: Input, C: Input, O: Output, E: Output>(
     match command {
         Command::Check => check_all_types(alloc, PROGRAM, file, out, err),
         Command::Dump(options) => dump(alloc, options, file, out, err),
-        Command::Pack => {
-            let packer = WidePacker::new(alloc);
-            pack_by(alloc, PROGRAM, WideLinePacker { packer }, file, out, err)
-        }
+        Command::Pack => pack(alloc, file, out, err),
         Command::Find(options, layout, form) => {
             let text = query_text(query, options);
             find(alloc, layout, *form, text, options, file, out, err)
