@@ -95,6 +95,11 @@ impl<P: LinePacker> LinePacker for &mut P {
     fn pack_line(&mut self, line: &[u8], out: &mut Vec<u8>) -> Result<Option<LineFault>, NoMemory> {
         LinePacker::pack_line(&mut **self, line, out)
     }
+
+    #[inline(always)]
+    fn advice(&self, line: &[u8], fault: LineFault) -> Option<&'static str> {
+        LinePacker::advice(&**self, line, fault)
+    }
 }
 
 impl LinePacker for Packer {
