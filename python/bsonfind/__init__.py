@@ -19,14 +19,8 @@ from __future__ import annotations
 TYPE_CHECKING = False
 if TYPE_CHECKING:
     from ._ask.aio import AsyncCursor as AsyncCursor, AsyncSession as AsyncSession
-    from ._ask.answers import (
-        Answer as Answer,
-        count_documents as count_documents,
-        distinct as distinct,
-        explain as explain,
-        find as find,
-        find_one as find_one,
-    )
+    from ._ask.answers import Answer as Answer, count_documents as count_documents, distinct as distinct
+    from ._ask.answers import explain as explain, find as find, find_one as find_one
     from ._ask.frames import to_dicts as to_dicts, to_pandas as to_pandas
     from ._ask.merge import Check as Check, check_parts as check_parts, count_parts as count_parts, find_parts as find_parts
     from ._ask.sessions import Cursor as Cursor, Session as Session
@@ -38,19 +32,10 @@ if TYPE_CHECKING:
     from ._dumps.files import FileState as FileState
     from ._dumps.gzip import UnpackError as UnpackError
     from ._dumps.parts import Part as Part, PartError as PartError, plan as plan
-    from ._errors import (
-        ArgumentError as ArgumentError,
-        BsonfindError as BsonfindError,
-        CancelledError as CancelledError,
-        CommandError as CommandError,
-        CursorStateError as CursorStateError,
-        DumpError as DumpError,
-        FileError as FileError,
-        OtherProcessError as OtherProcessError,
-        ProgramError as ProgramError,
-        SessionEndedError as SessionEndedError,
-        TimedOutError as TimedOutError,
-    )
+    from ._errors import ArgumentError as ArgumentError, BsonfindError as BsonfindError, CancelledError as CancelledError
+    from ._errors import CommandError as CommandError, CursorStateError as CursorStateError, DumpError as DumpError
+    from ._errors import FileError as FileError, OtherProcessError as OtherProcessError, ProgramError as ProgramError
+    from ._errors import SessionEndedError as SessionEndedError, TimedOutError as TimedOutError
     from ._faults import Fault as Fault
 
     __version__: str

@@ -14,12 +14,8 @@ def main(words: list[str] | None = None) -> int:
         become_program(sys.argv[1:])
     from ._command.shell import run_command
 
-    return run_command(sys.argv[1:] if words is None else words, _name())
-
-
-def _name() -> str:
-    """What the command line begins with."""
-    return "bsonkit" if os.path.basename(sys.argv[0]) == "bsonkit" else "python3 -m bsonfind"
+    name = "bsonkit" if os.path.basename(sys.argv[0]) == "bsonkit" else "python3 -m bsonfind"
+    return run_command(sys.argv[1:] if words is None else words, name)
 
 
 if __name__ == "__main__":

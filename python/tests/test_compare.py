@@ -9,8 +9,7 @@ import tracemalloc
 from typing import List, Tuple
 from unittest import mock
 
-from bsonfind._backup.compare import CompareError, Pair, compare
-from bsonfind._backup.sorting import Sorter
+from bsonfind._backup.compare import CompareError, Pair, Sorter, compare
 
 from .archives import archive
 from .bson import document, field, int32, text
@@ -184,8 +183,8 @@ class Compares(Room):
     def test_files_larger_than_what_a_run_reads(self) -> None:
         """With a largest input of 10,000 bytes, and runs of 7 lines."""
         other = self.file(PEOPLE.read_bytes()[39978:] + PEOPLE.read_bytes()[:39978])
-        with mock.patch("bsonfind._dumps.framing.LARGEST_INPUT", 10_000), mock.patch("bsonfind._backup.sorting._MOST_LINES", 7):
-            with mock.patch("bsonfind._backup.sorting._MOST_RUNS", 5):
+        with mock.patch("bsonfind._dumps.framing.LARGEST_INPUT", 10_000), mock.patch("bsonfind._backup.compare._MOST_LINES", 7):
+            with mock.patch("bsonfind._backup.compare._MOST_RUNS", 5):
                 done = compare(Pair("", str(PEOPLE), str(other)), "_id", PROGRAM, self.fail)
         self.assertTrue(done.is_same)
         self.assertEqual((done.documents, done.kinds["same"]), ((500, 500), 500))
@@ -195,7 +194,7 @@ class Compares(Room):
         peaks = []
         for count in (3000, 12_000):
             path = self.dump(*(f'{{"_id":{number},"text":"{"x" * 500}"}}' for number in range(count)), name=f"{count}.bson")
-            small = mock.patch.multiple("bsonfind._backup.sorting", _MOST_LINES=500, _MOST_RUNS=8)
+            small = mock.patch.multiple("bsonfind._backup.compare", _MOST_LINES=500, _MOST_RUNS=8)
             with small, mock.patch("bsonfind._dumps.sources._PIECE", 10_000):
                 tracemalloc.start()
                 compare(Pair("", path, path), "_id", PROGRAM, self.fail)
@@ -223,7 +222,7 @@ class Lines(Room):
         chance = random.Random(4)
         lines = [os.urandom(chance.randrange(9)).replace(b"\n", b"") + b"\n" for _ in range(2000)]
         for most, runs in ((1, 2), (7, 3), (100, 64), (5000, 64)):
-            with mock.patch.multiple("bsonfind._backup.sorting", _MOST_LINES=most, _MOST_RUNS=runs), Sorter() as sorter:
+            with mock.patch.multiple("bsonfind._backup.compare", _MOST_LINES=most, _MOST_RUNS=runs), Sorter() as sorter:
                 for line in lines:
                     sorter.add(line)
                 self.assertEqual(list(sorter.all()), sorted(lines))

@@ -14,8 +14,7 @@ from fractions import Fraction
 from typing import Any, Iterator, List, Sequence
 from unittest import mock
 
-from bsonfind._backup.count import MISSING, Count, TooManyError
-from bsonfind._backup.sums import Sum
+from bsonfind._backup.count import MISSING, Count, Sum, TooManyError
 from bsonfind._dumps.paths import Path
 from bsonfind._errors import ArgumentError
 

@@ -19,7 +19,7 @@ from bsonfind import ProgramError
 from bsonfind._backup.backups import Dump
 from bsonfind._backup.grep import Hits, grep_dumps, wanted_of
 from bsonfind._backup.search import Search, Wanted, literal_in
-from bsonfind._backup.watching import Unwatched
+from bsonfind._dumps.sources import Unwatched
 
 from .archives import archive
 from .bson import document, field, int32, string, text

@@ -18,7 +18,7 @@ MOST_IMPORTED, MOST_OWN = 45, 12
 # What reads what a program printed.
 READERS = {
     "lines_of", "faults_of", "all_faults", "finish", "finish_check", "finish_dump", "counted", "read_reply", "read_batch", "documents_in", "document_at",
-    "numbers_in", "error_of", "error_line", "read_fault", "messages", "lines_of_documents", "refuse_other_count",
+    "numbers_in", "error_of", "read_fault", "messages", "lines_of_documents",
 }  # fmt: skip
 # Each place that calls one of them, and what it does with what was printed. None of them decides what is a fault, or what matches.
 PLACES = {
@@ -33,9 +33,9 @@ PLACES = {
     "_ask/replies.documents_in": "cuts a batch into its documents",
     "_ask/readings.Reading._read": "reads a reply",
     "_ask/readings.Reading.token": "reads a reply",
-    "_dumps/checking.all_faults": "compares the count with that of what was given",
+    "_dumps/runs.all_faults": "compares the count with that of what was given",
     "_backup/beginnings.Beginnings._undamaged_of": "takes the places after which there is no damage",
-    "_backup/ids._Finding.pass_on": "passes lines on; takes a document that dump refuses for one with a fault",
+    "_backup/ids.find_ids": "passes lines on; takes a document that dump refuses for one with a fault",
     "_backup/query._answer": "passes lines on",
     "_backup/reading._Batch.good": "notes faults, and leaves out their documents",
     "_backup/salvage.Salvaging._documents": "tells documents with a fault from others",
@@ -44,24 +44,24 @@ PLACES = {
     "_command/finding.Finding._print_all": "passes the line of the count on",
     "_command/finding.Finding._try": "asks no documents, so that a refused request is reported",
     "_command/finding.Finding._print_parts": "waits for the line of each part; passes the count of what was joined on",
-    "_dumps/checking.Checking.faults": "moves the places of faults of an input to those in the dump, and adds up the counts",
-    "_dumps/checking.faults_of": "reads the lines of faults",
-    "_dumps/checking.finish_check": "reads the line of the count; compares it with that of what was given",
-    "_dumps/checking.each_document": "raises the first fault; adds up the counts of inputs",
-    "_dumps/printing.finish_dump": "reads the line of the count",
-    "_dumps/printing.lines_of_documents": "compares the count with that of what was given",
-    "_dumps/printing.pack_lines": "waits for the line of the count",
-    "_dumps/printing.texts_of_values": "takes the text of a value out of a line, to print it",
+    "_dumps/runs.Checking.faults": "moves the places of faults of an input to those in the dump, and adds up the counts",
+    "_dumps/runs.faults_of": "reads the lines of faults",
+    "_dumps/runs.finish_check": "reads the line of the count; compares it with that of what was given",
+    "_dumps/runs.each_document": "raises the first fault; adds up the counts of inputs",
+    "_dumps/runs.finish_dump": "reads the line of the count",
+    "_dumps/runs.lines_of_documents": "compares the count with that of what was given",
+    "_dumps/runs.pack_lines": "waits for the line of the count",
+    "_dumps/runs.texts_of_values": "takes the text of a value out of a line, to print it",
     "_run/messages.error_of": "makes an error of a message",
     "_run/processes.Run.error": "makes an error of a message",
     "_run/processes.Run.finish": "compares all that a run says with the line of its count",
-    "_run/wide._refuse_other_version": "compares the version",
+    "_run/processes._refuse_other_version": "compares the version",
 }
 # What puts in order, counts or adds.
 ORDERING = {"sorted", "sort", "sum", "Counter", "most_common", "merge"}
 # Where what was printed, or the bytes of a dump, are compared, put in order or counted, and why that decides no answer of a query.
 DECIDES = {
-    "_ask/distinct.Distinct.add": "takes each value of a field once; which documents match is the program's answer",
+    "_ask/values.Distinct.add": "takes each value of a field once; which documents match is the program's answer",
     "_ask/merge.count_parts": "adds up the counts of parts that have no document in common",
     "_ask/merge.check_parts": "the same of faults",
     "_backup/audit._Checker._check_documents": "counts the faults of each kind",
@@ -73,13 +73,13 @@ DECIDES = {
     "_backup/count.Count._take_by": "counts documents by the bytes of their values; which documents match is the program's answer",
     "_backup/count.Count.merge": "adds the counts of documents that are not the same",
     "_backup/count.Count.rows": "values are one if their numbers or their texts are equal: that is what the command says",
-    "_backup/ids._Finding.look_at": "an id is found if the bytes of a document's id are the same, or its number is: that is what the command says",
+    "_backup/ids.find_ids": "an id is found if the bytes of a document's id are the same, or its number is: that is what the command says",
     "_backup/info._ordered": "puts collections in the order of their names",
     "_backup/search.Search._matches": "a text is found where its bytes, or a pattern, are in a value: that is what the command says",
     "_backup/search.Search._matches_value": "the same of an id and of a UUID",
     "_backup/reports.Report.compare": "compares a count with that in the log",
-    "_backup/schema.Looked.look": "counts the types of values, and keeps the least and the greatest: that is what the command says",
-    "_backup/sums.Sum.add": "adds numbers, exactly: that is what the command says",
+    "_backup/schema.Looked.__init__": "counts the types of values, and keeps the least and the greatest: that is what the command says",
+    "_backup/count.Sum.add": "adds numbers, exactly: that is what the command says",
     "_backup/texts.order_of": "sorts rows of equal counts, and the values of a schema",
     "_dumps/framing.ends_in": "the lengths of documents, before a run reads them",
     **dict.fromkeys(
@@ -93,7 +93,7 @@ DECIDES = {
         "adds what was found in some documents, counts paths, and prints the most frequent types first: that is what the command says",
     ),
     **dict.fromkeys(
-        ["_backup/sorting.Sorter.add", "_backup/sorting.Sorter.all"],
+        ["_backup/compare.Sorter.add", "_backup/compare.Sorter.all"],
         "puts the lines of `compare` in the order of their bytes, so that those of one key come together",
     ),
     **dict.fromkeys(
@@ -126,7 +126,7 @@ WIDE = {
     "_ask/connections.Connection.__init__": "ends the run, and raises it",
     "_ask/connections.Connection._reply": "ends the run, and raises it",
     "_ask/decoding.Texts.give": "goes on to the next document, and raises it",
-    "_ask/loops.Loop.do": "gives it to the plan, which raises what comes of it",
+    "_ask/aio.Loop.do": "gives it to the plan, which raises what comes of it",
     "_ask/merge._Asking._run": "ends all runs, and raises it",
     "_ask/merge._Asking.each": "ends all runs, and raises it, or the error of the first part that failed",
     "_ask/plans.now": "gives it to the plan, which raises what comes of it",
@@ -134,9 +134,9 @@ WIDE = {
     "_backup/audit._check_all": "ends all runs, and raises it",
     "_command/shell.run_command": "reports it, with a status that is not 0",
     "_dumps/originals.kept": "closes the file, and raises it",
-    "_run/processes.Feeder.run": "ends the run, and is raised where that is waited for",
+    "_run/processes.Run._write": "ends the run, and is raised where that is waited for",
     "_run/processes.Run._feed": "ends the run, and raises it",
-    "_run/processes.Run._start": "closes the file, and raises it",
+    "_run/processes.Run.__init__": "closes the file, and raises it",
 }
 
 
@@ -201,7 +201,7 @@ class House(unittest.TestCase):
         run = subprocess.run([sys.executable, "-c", code], env=environment(), capture_output=True, text=True)
         self.assertEqual(
             [it for it in run.stdout.split() if it.startswith("bsonfind")],
-            ["bsonfind", "bsonfind._command", "bsonfind._command.layouts", "bsonfind._command.program", "bsonfind._run", "bsonfind._run.program"],
+            ["bsonfind", "bsonfind._command", "bsonfind._command.program", "bsonfind._run", "bsonfind._run.program"],
             run.stderr,
         )
 

@@ -29,7 +29,7 @@ from bsonfind import (
 from bsonfind._ask.decoding import Parsed, Texts
 from bsonfind._ask.requests import text_of
 from bsonfind._ask.values import plain_document
-from bsonfind._backup.sorting import Sorter
+from bsonfind._backup.compare import Sorter
 from bsonfind._dumps.archive import documents_of
 from bsonfind._dumps.archive_frames import Namespace
 from bsonfind._dumps.files import member_of
@@ -193,7 +193,7 @@ class Files(Room):
         """Messages of programs need no disk; a sort that does names the directory."""
         with mock.patch("tempfile.TemporaryFile", side_effect=OSError(28, "No space left on device")):
             self.assertEqual(len(list(find(PEOPLE, program=PROGRAM))), 500)
-            with mock.patch("bsonfind._backup.sorting._MOST_LINES", 1), self.assertRaises(ProgramError) as raised, Sorter() as sorter:
+            with mock.patch("bsonfind._backup.compare._MOST_LINES", 1), self.assertRaises(ProgramError) as raised, Sorter() as sorter:
                 sorter.add(b"a\n")
         self.assertIn(tempfile.gettempdir(), str(raised.exception))
         self.assertIn("TMPDIR", str(raised.exception))
@@ -225,7 +225,7 @@ class Files(Room):
 
     def test_memory_of_compare(self) -> None:
         """Long lines are written to files by their bytes, not by their number."""
-        with mock.patch("bsonfind._backup.sorting._MOST_BYTES", 1000), Sorter() as sorter:
+        with mock.patch("bsonfind._backup.compare._MOST_BYTES", 1000), Sorter() as sorter:
             for number in range(100):
                 sorter.add(b"%03d" % (number * 7 % 100) * 30 + b"\n")
             self.assertGreater(len(sorter._runs), 5)

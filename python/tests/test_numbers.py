@@ -5,7 +5,7 @@ import unittest
 from decimal import Decimal
 from fractions import Fraction
 
-from bsonfind._dumps.numbers import number_of
+from bsonfind._dumps.paths import number_of
 
 
 class Numbers(unittest.TestCase):

@@ -11,7 +11,7 @@ from unittest import mock
 
 from bsonfind._ask.requests import Request
 from bsonfind._backup.backups import Dump
-from bsonfind._backup.ids import Ids, find_ids
+from bsonfind._backup.ids import find_ids, ids_of
 from bsonfind._backup.query import query_dumps
 
 from .bson import document, field, text
@@ -205,7 +205,7 @@ class AsksForIds(Room):
         with mock.patch("bsonfind._dumps.framing.LARGEST_INPUT", 20_000):
             for path in (PEOPLE, self.file(gzip.compress(data), "a.bson.gz"), pipe):
                 found: List[bytes] = []
-                missing = find_ids(str(path), Ids(["7", "600", "480", "241"], "ids", PROGRAM), PROGRAM, found.extend)
+                missing = find_ids(str(path), ids_of(["7", "600", "480", "241"], "ids", PROGRAM), PROGRAM, found.extend)
                 self.assertEqual((missing, found), (["600"], [PEOPLE_LINES[number] + b"\n" for number in (7, 241, 480)]))
         writer.join()
 
@@ -223,7 +223,7 @@ class AsksForIds(Room):
             self.assertEqual(sorted(found), sorted(lines))
             with mock.patch("bsonfind._dumps.framing.LARGEST_INPUT", 20):
                 found = []
-                self.assertEqual(find_ids(str(path), Ids(ids, "ids", PROGRAM), PROGRAM, found.extend), ["7.5"])
+                self.assertEqual(find_ids(str(path), ids_of(ids, "ids", PROGRAM), PROGRAM, found.extend), ["7.5"])
             self.assertEqual([it.decode().strip() for it in found], lines)
 
     def test_bad_input(self) -> None:

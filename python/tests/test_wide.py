@@ -5,9 +5,8 @@ import os
 from typing import List, Tuple, Union
 from unittest import mock
 
-from bsonfind._command.checks import check_file
 from bsonfind._command.console import Console
-from bsonfind._command.dumping import Dumping
+from bsonfind._command.dumping import Dumping, check_file
 
 from .bson import document, field, text
 from .support import DAMAGED, DOUBLE, PEOPLE, PEOPLE_LINES, PROGRAM, Room, packed, run_of_bytes

@@ -9,8 +9,8 @@ from typing import Any, List
 from unittest import mock
 
 from bsonfind import ProgramError
-from bsonfind._backup.count import Count, TooManyError, counted
-from bsonfind._backup.schema import Schema, looked_at
+from bsonfind._backup.count import Count, TooManyError
+from bsonfind._backup.schema import Looked, Schema
 from bsonfind._backup.workers import Spread
 from bsonfind._dumps.paths import Path
 
@@ -73,7 +73,7 @@ class Spreading(Room):
             with mock.patch("bsonfind._backup.schema.MOST_NAMES", most):
                 one, many = Schema(), Schema()
                 one.take(documents)
-                self.spread(looked_at, many.add, batches(documents, 170))
+                self.spread(Looked, many.add, batches(documents, 170))
                 self.assertEqual((many.documents, many.looked_at), (4000, 4000))
                 if most == 1000:
                     self.assertEqual(list(many.rows()), list(one.rows()))
@@ -85,7 +85,7 @@ class Spreading(Room):
         for by, add in ((Path("v"), None), (None, Path("v")), (Path("v"), Path("_id")), (Path("none"), Path("v"))):
             one, many = Count(by, add), Count(by, add)
             one.take(documents)
-            self.spread(partial(counted, by, add), many.merge, batches(documents, 330))
+            self.spread(partial(Count, by, add), many.merge, batches(documents, 330))
             self.assertEqual(counts_in(many), counts_in(one))
             self.assertEqual(list(many._counts), list(one._counts))
 
@@ -95,7 +95,7 @@ class Spreading(Room):
         for _ in range(199):
             deep = document(field(0x03, "a", deep))
         schema = Schema()
-        self.spread(looked_at, schema.add, [[deep], [deep], [deep]])
+        self.spread(Looked, schema.add, [[deep], [deep], [deep]])
         rows = list(schema.rows())
         self.assertEqual((len(rows), rows[-1].path, rows[-1].types), (200, ".".join("a" * 200), {"int": 3}))
 

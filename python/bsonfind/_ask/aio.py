@@ -1,23 +1,21 @@
-"""Sessions for asyncio: what `sessions` does, without a thread that waits."""
+"""Sessions for asyncio: what `sessions` does, but an event loop carries their plans out, so that no thread waits for a reply."""
 
 from __future__ import annotations
 
+import asyncio
 import os
 from functools import partial
 from typing import Any, AsyncIterator, Awaitable, Callable, TypeVar, overload
 
+from .._arguments import File, name_of_file, seconds
 from .._errors import CancelledError, SessionEndedError
-from .._names import File, name_of_file
-from .._numbers import seconds
 from .._run.processes import Group, check_owner
 from .decoding import Decode, Decoding, Dicts, Raw
-from .distinct import Distinct, Values
-from .loops import Loop, in_thread
-from .plans import Plan
+from .plans import PIECE, Alone, Plan, Receive, Send, Work
 from .questions import Questions
 from .readings import Reading
 from .requests import Filter, Hint, Request, Sort, use_of
-from .values import Uuids, uuids_of
+from .values import Distinct, Uuids, Values, uuids_of
 
 T = TypeVar("T")
 
@@ -31,24 +29,20 @@ class AsyncSession:
     """
 
     def __init__(
-        self,
-        path: File,
-        program: str = "bsonfind",
-        *,
-        timeout: float | None = None,
-        uuid_representation: Uuids = "standard",
+        self, path: File, program: str = "bsonfind", *, timeout: float | None = None, uuid_representation: Uuids = "standard"
     ) -> None:
         self._uuids, self._owner = uuids_of(uuid_representation), os.getpid()
         self._group, self._loop = Group(), Loop()
         self._timeout = seconds(timeout)
-        self._open = partial(Questions, name_of_file(path), program, self._timeout, self._group)
+        self._open = partial(Questions, name_of_file(path), program, self._group, self._timeout)
         self._questions: Questions | None = None
 
     async def open(self) -> AsyncSession:
         """Starts the program, and waits until the dump is read."""
         self._check()
         if self._questions is None or self._group.is_ended:
-            self._refuse_ended()
+            if self._group.is_ended:
+                raise SessionEndedError(str(self._group.error))
             try:
                 self._questions = await in_thread(self._opened)
             except BaseException:
@@ -68,16 +62,10 @@ class AsyncSession:
         """Refuses a call in another process than the one that made the session."""
         check_owner(self._owner)
 
-    def _refuse_ended(self) -> None:
-        if self._group.is_ended:
-            raise SessionEndedError(str(self._group.error))
-
     async def _do(self, plan_of: Callable[[Questions], Plan[T]]) -> T:
-        """Carries out what is asked."""
         self._check()
         if self._questions is None:
-            self._refuse_ended()
-            raise SessionEndedError("the session was not opened")
+            raise SessionEndedError(str(self._group.error) if self._group.is_ended else "the session was not opened")
         with self._group.within(self._timeout):
             return await self._loop.do(plan_of(self._questions))
 
@@ -97,19 +85,11 @@ class AsyncSession:
         self, filter: Filter | None = None, *, sort: Sort | None = None, skip: int = 0, limit: int = 0, batch_size: int = 100,
         hint: Hint | None = None, after: str | None = None, decode: Callable[[bytes], T],
     ) -> AsyncCursor[T]: ...
-    # fmt: on
     def find(
-        self,
-        filter: Filter | None = None,
-        *,
-        sort: Sort | None = None,
-        skip: int = 0,
-        limit: int = 0,
-        batch_size: int = 100,
-        hint: Hint | None = None,
-        after: str | None = None,
-        decode: Decode[Any] = "plain",
+        self, filter: Filter | None = None, *, sort: Sort | None = None, skip: int = 0, limit: int = 0, batch_size: int = 100,
+        hint: Hint | None = None, after: str | None = None, decode: Decode[Any] = "plain",
     ) -> AsyncCursor[Any]:
+        # fmt: on
         """A cursor over an answer, or over what follows a token, for `async for`. It is opened by its first document."""
         request = Request.of(filter, sort, skip, limit, self._uuids)
         return AsyncCursor(self, Reading(request, use_of(hint), batch_size, after, Decoding(decode, self._uuids)))
@@ -117,29 +97,22 @@ class AsyncSession:
     # fmt: off
     @overload
     async def find_one(
-        self, filter: Filter | None = None, *, sort: Sort | None = None, skip: int = 0, hint: Hint | None = None,
-        decode: Dicts = "plain",
+        self, filter: Filter | None = None, *, sort: Sort | None = None, skip: int = 0, hint: Hint | None = None, decode: Dicts = "plain"
     ) -> dict[str, Any] | None: ...
     @overload
     async def find_one(
-        self, filter: Filter | None = None, *, sort: Sort | None = None, skip: int = 0, hint: Hint | None = None,
-        decode: Raw,
+        self, filter: Filter | None = None, *, sort: Sort | None = None, skip: int = 0, hint: Hint | None = None, decode: Raw
     ) -> bytes | None: ...
     @overload
     async def find_one(
         self, filter: Filter | None = None, *, sort: Sort | None = None, skip: int = 0, hint: Hint | None = None,
         decode: Callable[[bytes], T],
     ) -> T | None: ...
-    # fmt: on
     async def find_one(
-        self,
-        filter: Filter | None = None,
-        *,
-        sort: Sort | None = None,
-        skip: int = 0,
-        hint: Hint | None = None,
+        self, filter: Filter | None = None, *, sort: Sort | None = None, skip: int = 0, hint: Hint | None = None,
         decode: Decode[Any] = "plain",
     ) -> Any:
+        # fmt: on
         """The first document of an answer, None if it has none."""
         ask: Callable[..., AsyncCursor[Any]] = self.find
         with self._group.within(self._timeout):
@@ -170,13 +143,7 @@ class AsyncSession:
         await self._do(lambda it: it.drop_index(path))
 
     async def explain(
-        self,
-        filter: Filter | None = None,
-        *,
-        sort: Sort | None = None,
-        skip: int = 0,
-        limit: int = 0,
-        hint: Hint | None = None,
+        self, filter: Filter | None = None, *, sort: Sort | None = None, skip: int = 0, limit: int = 0, hint: Hint | None = None
     ) -> dict[str, Any]:
         """How an answer is found: the `plan`, the path of the `index`, and how many `entries`, `documents` and `matches`."""
         request = Request.of(filter, sort, skip, limit, self._uuids)
@@ -241,3 +208,80 @@ class AsyncCursor(AsyncIterator[T]):
 
     def __del__(self) -> None:
         self._reading.leave()
+
+
+class Loop:
+    """Tasks may share it: a command has its reply before the next one is sent."""
+
+    def __init__(self) -> None:
+        self._lock: asyncio.Lock | None = None
+
+    async def do(self, plan: Plan[T]) -> T:
+        """Carries a plan out. It is closed where the task is cancelled."""
+        try:
+            step = next(plan)
+            while True:
+                try:
+                    done = await self._done(step)
+                except BaseException as error:  # noqa: BLE001 - the plan says what comes of it
+                    step = plan.throw(error)
+                else:
+                    step = plan.send(done)
+        except StopIteration as end:
+            result: T = end.value
+            return result
+        finally:
+            plan.close()
+
+    @property
+    def lock(self) -> asyncio.Lock:
+        """What keeps others from a program meanwhile. It is made once there is an event loop."""
+        self._lock = self._lock or asyncio.Lock()
+        return self._lock
+
+    async def _done(self, step: Send | Receive | Work | Alone) -> Any:
+        if isinstance(step, Work):
+            return await in_thread(step.do)
+        if isinstance(step, Alone):
+            async with self.lock:
+                return await self.do(step.plan)
+        os.set_blocking(step.pipe, False)
+        return await (_send(step) if isinstance(step, Send) else _receive(step))
+
+
+async def in_thread(call: Callable[[], T]) -> T:
+    """What a call gives that waits."""
+    return await asyncio.get_running_loop().run_in_executor(None, call)
+
+
+async def _send(step: Send) -> None:
+    loop, rest = asyncio.get_running_loop(), memoryview(step.data)
+    while rest:
+        try:
+            rest = rest[os.write(step.pipe, rest) :]
+        except BlockingIOError:
+            await _ready(step.pipe, loop.add_writer, loop.remove_writer)
+
+
+async def _receive(step: Receive) -> bytes:
+    loop = asyncio.get_running_loop()
+    while True:
+        try:
+            return os.read(step.pipe, PIECE)
+        except BlockingIOError:
+            await _ready(step.pipe, loop.add_reader, loop.remove_reader)
+
+
+async def _ready(pipe: int, add: Callable[..., None], remove: Callable[[int], object]) -> None:
+    """Waits until a pipe takes or has bytes, or its other end is closed."""
+    ready = asyncio.get_running_loop().create_future()
+    add(pipe, _wake, ready)
+    try:
+        await ready
+    finally:
+        remove(pipe)
+
+
+def _wake(ready: asyncio.Future[None]) -> None:
+    if not ready.done():
+        ready.set_result(None)

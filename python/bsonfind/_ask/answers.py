@@ -6,17 +6,15 @@ import os
 from contextlib import AbstractContextManager
 from typing import Any, Callable, Iterator, TypeVar, overload
 
+from .._arguments import File, name_of, seconds, whole
 from .._errors import ArgumentError, CancelledError, CursorStateError
-from .._names import File, name_of
-from .._numbers import seconds, whole
 from .._run.processes import Group, check_owner
 from .decoding import Decode, Decoding, Dicts, Raw, Texts
-from .distinct import Distinct, Values
 from .lines import Lines
 from .plans import now
 from .questions import Questions
 from .requests import Filter, Request, Sort
-from .values import Uuids
+from .values import Distinct, Uuids, Values
 
 T = TypeVar("T")
 
@@ -105,23 +103,12 @@ def find(
     page: int | None = None, batch_size: int = 0, index: str | None = None, after: str | None = None, decode: Callable[[bytes], T],
     uuid_representation: Uuids = "standard", program: str = "bsonfind", timeout: float | None = None,
 ) -> Answer[T]: ...
-# fmt: on
 def find(
-    path: File,
-    filter: Filter | None = None,
-    *,
-    sort: Sort | None = None,
-    skip: int = 0,
-    limit: int = 0,
-    page: int | None = None,
-    batch_size: int = 0,
-    index: str | None = None,
-    after: str | None = None,
-    decode: Decode[Any] = "plain",
-    uuid_representation: Uuids = "standard",
-    program: str = "bsonfind",
-    timeout: float | None = None,
+    path: File, filter: Filter | None = None, *, sort: Sort | None = None, skip: int = 0, limit: int = 0, page: int | None = None,
+    batch_size: int = 0, index: str | None = None, after: str | None = None, decode: Decode[Any] = "plain",
+    uuid_representation: Uuids = "standard", program: str = "bsonfind", timeout: float | None = None,
 ) -> Answer[Any]:
+    # fmt: on
     """Finds documents of a dump by one run of the program, which begins with the first document that is asked for.
 
     `page` gives one page of this many documents in place of all, and `after` resumes after the documents that were given
@@ -153,18 +140,11 @@ def find_one(
     path: File, filter: Filter | None = None, *, sort: Sort | None = None, skip: int = 0, decode: Callable[[bytes], T],
     uuid_representation: Uuids = "standard", program: str = "bsonfind", timeout: float | None = None,
 ) -> T | None: ...
-# fmt: on
 def find_one(
-    path: File,
-    filter: Filter | None = None,
-    *,
-    sort: Sort | None = None,
-    skip: int = 0,
-    decode: Decode[Any] = "plain",
-    uuid_representation: Uuids = "standard",
-    program: str = "bsonfind",
-    timeout: float | None = None,
+    path: File, filter: Filter | None = None, *, sort: Sort | None = None, skip: int = 0, decode: Decode[Any] = "plain",
+    uuid_representation: Uuids = "standard", program: str = "bsonfind", timeout: float | None = None,
 ) -> Any:
+    # fmt: on
     """The first document of an answer, None if it has none."""
     how: dict[str, Any] = {"decode": decode, "uuid_representation": uuid_representation, "program": program, "timeout": timeout}
     with find(path, filter, sort=sort, skip=skip, limit=1, **how) as answer:
@@ -219,7 +199,7 @@ def explain(
     request, group = Request.of(filter, sort, skip, limit, uuid_representation), Group()
     if isinstance(index, str) and "\0" in index:
         raise ArgumentError(f"a path has no zero byte: {index!r}")
-    with group.within(seconds(timeout)), Questions(path, program, group=group) as questions:
+    with group.within(seconds(timeout)), Questions(path, program, group) as questions:
         if index is not None:
             now(questions.create_index(index, False))
         return now(questions.explain(request, "auto"))

@@ -8,8 +8,7 @@ from collections import deque
 from typing import Any, Callable, NamedTuple, Sequence
 
 from .._errors import ArgumentError, CancelledError, CommandError, SessionEndedError, TimedOutError
-from .._run.processes import Dump, Group, Run
-from .._run.wide import wide_program
+from .._run.processes import Dump, Group, Run, wide_program
 from .plans import Alone, Plan, Receive, Send, Work, now
 from .replies import read_reply
 from .requests import Request, Use, text_of, text_of_pairs
@@ -51,10 +50,7 @@ class NotTaken(CommandError):
 
 
 class Connection:
-    """A run of `serve` over a dump that was read. A command has its reply before the next one is sent.
-
-    Before a reply is given `check` is called, which raises why there is none, such as a dump that was replaced.
-    """
+    """A run of `serve` over a dump that was read. Before a reply `check` raises why there is none, such as a dump that was replaced."""
 
     def __init__(self, dump: Dump, program: str, group: Group, check: Callable[[], None], options: Sequence[str] = ()) -> None:
         self._lock, self._check = threading.Lock(), check
@@ -92,15 +88,12 @@ class Connection:
             raise
 
     def create_index(self, path: str, sparse: bool) -> Plan[dict[str, Any]]:
-        """Makes an index on a path."""
         return self.fields(Command.of(("createIndex", text_of(path)), ("sparse", text_of(sparse))))
 
     def drop_index(self, path: str) -> Plan[dict[str, Any]]:
-        """Drops the index on a path."""
         return self.fields(Command.of(("dropIndex", text_of(path))))
 
     def explain(self, request: Request, use: Use) -> Plan[dict[str, Any]]:
-        """How an answer is found."""
         return self.fields(Command.of(("explain", request.filter), *request.fields(), ("use", text_of(use))), "matches")
 
     def check_open(self) -> None:
@@ -114,7 +107,6 @@ class Connection:
         self._left.append(cursor)
 
     def close(self) -> None:
-        """Ends the run."""
         with self._lock:
             self._end("the session was closed")
 

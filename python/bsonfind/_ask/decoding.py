@@ -46,7 +46,7 @@ class Decoding:
         elif decode == "plain":
             self._finish = partial(plain_document, uuids=uuids)
         elif decode in ("canonical", "dict"):
-            self._finish = _as_it_is
+            self._finish = lambda document: document
         elif decode in ("pymongo", "json_util"):
             self.document_of = _by_pymongo(decode, uuids)
         elif decode in ("bytes", "bson"):
@@ -68,10 +68,6 @@ class Decoding:
     def batch(self, text: bytes) -> Texts[Any] | Parsed:
         """The documents of a batch, of its text."""
         return Parsed(text.decode(), self._finish) if self._finish else Texts(documents_in(text), self.document_of)
-
-
-def _as_it_is(document: dict[str, Any]) -> dict[str, Any]:
-    return document
 
 
 def _by_pymongo(decode: str, uuids: Uuids) -> Callable[[bytes], Any]:
@@ -97,11 +93,9 @@ class Texts(Generic[T]):
 
     @property
     def left(self) -> int:
-        """How many documents were not given yet."""
         return len(self._texts) - self.given
 
     def give(self) -> T:
-        """The next document."""
         try:
             document = self._document_of(self._texts[self.given])
         except Exception as error:
@@ -124,16 +118,13 @@ class Parsed:
 
     @property
     def given(self) -> int:
-        """How many documents were given."""
         return self._at[1]
 
     @property
     def left(self) -> bool:
-        """Whether documents were not given yet."""
         return self._at[0] < len(self._text)
 
     def give(self) -> Any:
-        """The next document."""
         at, given = self._at
         document, end = document_at(self._text, at)
         document = self._finish(document)

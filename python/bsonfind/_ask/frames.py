@@ -21,18 +21,17 @@ def to_dicts(documents: Iterable[Mapping[str, Any]]) -> list[dict[str, Any]]:
     """
     if isinstance(documents, (str, bytes, Mapping)) or not isinstance(documents, Iterable):
         raise ArgumentError(f"documents are those of an answer, not {documents!r:.60}")
-    return [_row(document) for document in documents]
-
-
-def _row(document: Mapping[str, Any]) -> dict[str, Any]:
-    if not isinstance(document, Mapping):
-        raise ArgumentError(f'a document is a dict, as decode="plain" gives it, not {document!r:.60}')
-    row: dict[str, Any] = {}
-    for path, value in _cells(document, ""):
-        if path in row:
-            raise ArgumentError(f'a document has two fields with the path "{path}"')
-        row[path] = value
-    return row
+    rows = []
+    for document in documents:
+        if not isinstance(document, Mapping):
+            raise ArgumentError(f'a document is a dict, as decode="plain" gives it, not {document!r:.60}')
+        row: dict[str, Any] = {}
+        for path, value in _cells(document, ""):
+            if path in row:
+                raise ArgumentError(f'a document has two fields with the path "{path}"')
+            row[path] = value
+        rows.append(row)
+    return rows
 
 
 def _cells(document: Mapping[str, Any], before: str) -> Iterator[tuple[str, Any]]:

@@ -4,16 +4,16 @@ from __future__ import annotations
 
 import re
 from contextlib import ExitStack, contextmanager
+from dataclasses import dataclass, field
 from io import BufferedReader
 from typing import Any, Callable, Iterator, NamedTuple, Sequence
 
+from .._arguments import File, name_of_file
 from .._dumps.framing import documents_taken
-from .._dumps.printing import Batches, lines_of
+from .._dumps.runs import Batches, lines_of
 from .._dumps.sources import Source
 from .._errors import ArgumentError, ProgramError
-from .._names import File, name_of_file
-from .._run.processes import Dump, Group, Run, file_in_memory
-from .._run.wide import wide_program
+from .._run.processes import Dump, Group, Run, file_in_memory, wide_program
 from .requests import LONGEST_FILTER, Request
 
 _COUNTED = re.compile(r"(\d+) documents, (end|more)(?:, token (\S+))?\n")
@@ -29,10 +29,7 @@ class Counted(NamedTuple):
 
 
 def counted(run: Run, printed: int | None = None) -> Counted:
-    """Waits for the end of a run of `find`, and gives what its line says; raises the error of a run that did not end well.
-
-    Where it is known how many documents were printed, another number is an error.
-    """
+    """Waits for the end of a run of `find`, and gives what its line says; another number than was printed is an error, if that is known."""
     documents, end, token = run.finish(_COUNTED).groups()
     if printed not in (None, int(documents)):
         raise ProgramError(f"find printed {printed} documents in place of {documents}")
@@ -51,36 +48,30 @@ def finding(dump: Dump, request: Request, program: str, options: Sequence[str] =
         file.write(text)
         file.flush()
         words = request.words(f"/dev/fd/{file.fileno()}")
-        return Run.over(dump, wide, "find", [*words, *options], passed=[file.fileno()], **how)
+        return Run.over(dump, wide, "find", [*words, *options], pass_fds=[file.fileno()], **how)
 
 
+@dataclass
 class Lines:
-    """The lines that answer a request over any dump, or with `is_bson` the documents as they are."""
+    """The lines that answer a request over any dump, or with `is_bson` the documents as they are. A file is opened once it is read."""
 
-    def __init__(
-        self,
-        dump: File | Dump,
-        request: Request,
-        program: str,
-        *,
-        is_bson: bool = False,
-        size: int | None = None,
-        index: str | None = None,
-        after: str | None = None,
-        group: Group | None = None,
-    ) -> None:
-        """A file is opened once lines are asked for."""
-        self._dump, self._request, self._program, self._is_bson = dump, request, program, is_bson
-        self._size, self._index, self._after = size, index, after
-        self._group = group or Group()
-        # Whether nothing follows the lines, and the token that leads on; known once all are read.
-        self.end, self.token = False, after
+    _dump: File | Dump
+    _request: Request
+    _program: str
+    is_bson: bool = False
+    size: int | None = None
+    index: str | None = None
+    after: str | None = None
+    group: Group | None = None
+    # Whether nothing follows the lines, and the token that leads on; known once all are read.
+    end: bool = field(default=False, init=False)
+    token: str | None = field(default=None, init=False)
 
     def batches(self) -> Batches:
         """The lines as they come, without their newlines, or documents. Closing this ends the program."""
         number = 0
-        with self._running(*(["--bson"] if self._is_bson else [])) as (run, check):
-            for some in (documents_of if self._is_bson else lines_of)(run.stdout):
+        with self._running(*(["--bson"] if self.is_bson else [])) as (run, check):
+            for some in (documents_of if self.is_bson else lines_of)(run.stdout):
                 number += len(some)
                 check()
                 yield some
@@ -100,7 +91,7 @@ class Lines:
     @contextmanager
     def _running(self, *more: str) -> Iterator[tuple[Run, Callable[[], None]]]:
         """A run of `find`, and what refuses a dump that is no longer as it was when it was opened."""
-        options = (("batch", self._size), ("index", self._index), ("after", self._after))
+        options = (("batch", self.size), ("index", self.index), ("after", self.after))
         words = [*(f"--{name}={value}" for name, value in options if value is not None), *more]
         with ExitStack() as files:
             dump: Dump
@@ -110,7 +101,7 @@ class Lines:
             else:
                 source = files.enter_context(Source(name_of_file(self._dump), is_named=True))
                 dump, check = source.dump(), source.check
-            yield files.enter_context(finding(dump, self._request, self._program, words, group=self._group)), check
+            yield files.enter_context(finding(dump, self._request, self._program, words, group=self.group)), check
 
 
 def documents_of(pipe: BufferedReader) -> Batches:

@@ -17,11 +17,11 @@ from contextlib import AbstractContextManager
 from functools import partial
 from typing import Any, Callable, Iterable, Iterator, NamedTuple, Sequence, TypeVar, overload
 
-from .._dumps.checking import checking, faults_of, finish_check
+from .._arguments import seconds, whole
 from .._dumps.parts import Part, PartError
+from .._dumps.runs import checking, faults_of, finish_check
 from .._errors import ArgumentError, BsonfindError, DumpError, ProgramError
 from .._faults import Fault
-from .._numbers import seconds, whole
 from .._run.processes import Dump, Group
 from .decoding import Decode, Decoding, Dicts, Raw, Texts
 from .lines import Lines, try_request
@@ -58,21 +58,12 @@ def find_parts(
     workers: int = 1, map: Map | None = None, decode: Callable[[bytes], T], uuid_representation: Uuids = "standard",
     program: str = "bsonfind", timeout: float | None = None,
 ) -> list[T]: ...
-# fmt: on
 def find_parts(
-    parts: Sequence[Part],
-    filter: Filter | None = None,
-    *,
-    sort: Sort | None = None,
-    skip: int = 0,
-    limit: int = 0,
-    workers: int = 1,
-    map: Map | None = None,
-    decode: Decode[Any] = "plain",
-    uuid_representation: Uuids = "standard",
-    program: str = "bsonfind",
-    timeout: float | None = None,
+    parts: Sequence[Part], filter: Filter | None = None, *, sort: Sort | None = None, skip: int = 0, limit: int = 0,
+    workers: int = 1, map: Map | None = None, decode: Decode[Any] = "plain", uuid_representation: Uuids = "standard",
+    program: str = "bsonfind", timeout: float | None = None,
 ) -> list[Any]:
+    # fmt: on
     """The documents that `find` gives over the parts joined, in its order.
 
     Each part is asked for its own answer, what they gave is packed and joined, and asked again. A part that fails is a
@@ -106,12 +97,7 @@ def count_parts(
 
 
 def check_parts(
-    parts: Sequence[Part],
-    *,
-    workers: int = 1,
-    map: Map | None = None,
-    program: str = "bsonfind",
-    timeout: float | None = None,
+    parts: Sequence[Part], *, workers: int = 1, map: Map | None = None, program: str = "bsonfind", timeout: float | None = None
 ) -> Check:
     """Checks each document of the parts. Numbers of documents and bytes of faults are those of the whole file."""
     with _Asking(program, workers, map, timeout) as asking:
@@ -130,9 +116,7 @@ class _Asking(AbstractContextManager["_Asking"]):
         if map and workers != 1:
             raise ArgumentError("workers and map both say how the parts are run: give one of them")
         self.group = Group()
-        limit = seconds(timeout)
-        if limit is not None:
-            self.group.end_after(limit)
+        self.group.end_after(seconds(timeout))
 
     def try_request(self, request: Request) -> None:
         """Asks no documents, so that a refused request or a missing program is reported before any part is asked."""

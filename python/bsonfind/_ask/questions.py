@@ -5,13 +5,11 @@ from __future__ import annotations
 import os
 import threading
 from contextlib import AbstractContextManager
-from typing import Any, Callable, ContextManager, Sequence, TypeVar
+from typing import Any, Callable, Sequence, TypeVar
 
+from .._arguments import File, name_of_file
 from .._dumps.originals import Original, kept
 from .._dumps.sources import Source
-from .._errors import CancelledError, SessionEndedError
-from .._names import File, name_of_file
-from .._numbers import seconds
 from .._run.processes import Dump, Group, check_owner
 from .connections import Connection, NotTaken
 from .plans import Plan, Work, now
@@ -25,10 +23,9 @@ _BY_VALUE = "--byValue"
 class Questions(AbstractContextManager["Questions"]):
     """The connections over a dump: one, and a second one once a command needs it."""
 
-    def __init__(self, path: File, program: str, timeout: float | None = None, group: Group | None = None) -> None:
+    def __init__(self, path: File, program: str, group: Group, timeout: float | None = None) -> None:
         """Opens a dump, and waits until it is read."""
-        self._program, self._owner, self._timeout = program, os.getpid(), seconds(timeout)
-        self._group, self._is_own_group = group or Group(), group is None
+        self._program, self._group, self._owner = program, group, os.getpid()
         self._source = Source(name_of_file(path), is_named=True)
         self._original: Original | None = None
         self._connections: list[Connection] = []
@@ -37,7 +34,7 @@ class Questions(AbstractContextManager["Questions"]):
         # One lock is for what takes long, the other one for what does not.
         self._opening, self._lock = threading.Lock(), threading.Lock()
         try:
-            with self.in_time():
+            with group.within(timeout):
                 self._connections.append(self._first())
         except BaseException:
             self.close()
@@ -57,10 +54,6 @@ class Questions(AbstractContextManager["Questions"]):
 
     def _connect(self, dump: Dump, options: Sequence[str] = ()) -> Connection:
         return Connection(dump, self._program, self._group, self._source.check, options)
-
-    def in_time(self) -> ContextManager[None]:
-        """Has all end where a question takes longer than its seconds."""
-        return self._group.within(self._timeout)
 
     def check(self) -> None:
         """Refuses a call in another process than the one that opened the session."""
@@ -89,26 +82,21 @@ class Questions(AbstractContextManager["Questions"]):
         with self._opening:
             if len(self._connections) > 1:
                 return
-            dump = self._original.dump if self._original else self._source.dump()
-            second = self._connect(dump, [_BY_VALUE])
+            second = self._connect(self._original.dump if self._original else self._source.dump(), [_BY_VALUE])
             made: list[tuple[str, bool]] = []
-            while not self._is_second(second, made):
+            while True:
+                with self._lock:
+                    if made == self._indexes:
+                        self._connections.append(second)
+                        return
+                    wanted = list(self._indexes)
                 for path, _ in made:
                     now(second.drop_index(path))
-                made = list(self._indexes)
-                for index in made:
+                for index in wanted:
                     now(second.create_index(*index))
-
-    def _is_second(self, connection: Connection, indexes: list[tuple[str, bool]]) -> bool:
-        """Adds a connection, if it has all indexes."""
-        with self._lock:
-            is_ready = indexes == self._indexes
-            if is_ready:
-                self._connections.append(connection)
-        return is_ready
+                made = wanted
 
     def create_index(self, path: str, sparse: bool) -> Plan[dict[str, Any]]:
-        """Makes an index on a path."""
         self.check()
         made = yield from self._connections[0].create_index(path, sparse)
         with self._lock:
@@ -119,7 +107,6 @@ class Questions(AbstractContextManager["Questions"]):
         return made
 
     def drop_index(self, path: str) -> Plan[None]:
-        """Drops the index on a path."""
         self.check()
         yield from self._connections[0].drop_index(path)
         with self._lock:
@@ -129,24 +116,15 @@ class Questions(AbstractContextManager["Questions"]):
             yield from other.drop_index(path)
 
     def explain(self, request: Request, use: Use) -> Plan[dict[str, Any]]:
-        """How an answer is found."""
         return self.ask(lambda connection: connection.explain(request, use))
 
     def count(self, request: Request) -> Plan[int]:
-        """How many documents match."""
         matches: int = (yield from self.explain(request, "auto"))["matches"]
         return matches
-
-    def cancel(self) -> None:
-        """Ends all at once. Any thread may call it."""
-        self.check()
-        self._group.end(CancelledError("cancelled"))
 
     def close(self) -> None:
         """Ends all connections, and what is read for them meanwhile."""
         self.check()
-        if self._is_own_group:
-            self._group.end(SessionEndedError("the session was closed"))
         for connection in self._connections:
             connection.close()
         if self._original:

@@ -5,8 +5,8 @@ from __future__ import annotations
 from functools import partial
 from typing import Any, Generic, NamedTuple, TypeVar
 
+from .._arguments import whole
 from .._errors import CommandError, CursorStateError, DumpError
-from .._numbers import whole
 from .connections import Command, Connection, kill
 from .decoding import Decoding, Parsed, Texts
 from .plans import Plan, Work
@@ -132,15 +132,11 @@ class Reading(Generic[T]):
         return None if found is None else (Texts(found, self._decoding.document_of), sum(map(len, found)))
 
     def explain(self, questions: Questions) -> Plan[dict[str, Any]]:
-        """How the answer is found."""
         connection = yield from self.open(questions)
         return (yield from connection.explain(self._request, self._use))
 
     def token(self, questions: Questions) -> Plan[str | None]:
-        """The token that leads on to what follows the documents that were given; None if none was.
-
-        Within a batch the program is asked for it, by a cursor that gives the same documents again.
-        """
+        """The token after the documents that were given, None if none was; within a batch another cursor of the program reads to there."""
         connection = yield from self.open(questions)
         documents, before, after = self.held
         if not documents.left:

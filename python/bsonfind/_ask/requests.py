@@ -7,8 +7,8 @@ import math
 from functools import partial
 from typing import Any, Iterable, Mapping, NamedTuple, Sequence, Union
 
+from .._arguments import MOST, whole
 from .._errors import ArgumentError
-from .._numbers import MOST, whole
 from .values import Uuids, extended, uuids_of
 
 Filter = Mapping[str, Any]
@@ -27,10 +27,7 @@ _LONGEST_BESIDE = 1000
 
 
 def _written(value: Any) -> Any:
-    """A value in which each float that JSON has not, such as infinity, is the double of that name.
-
-    What JSON would make a text of is refused: a name that is none, and the `Code` of pymongo.
-    """
+    """A value with doubles by name where JSON has no number. A name that is no text is refused, and the `Code` of pymongo too."""
     if isinstance(value, Mapping):
         for name in value:
             if not isinstance(name, str):
@@ -46,8 +43,7 @@ def _written(value: Any) -> Any:
 
 
 def text_of(value: Any, uuids: Uuids = "standard") -> str:
-    """The JSON of a value. An `ObjectId`, a date, bytes, a UUID, and by pymongo its own types, are written in canonical form, and so
-    is a float that is no number of JSON."""
+    """The JSON of a value. What JSON has no type for, an `ObjectId`, a date, bytes, a UUID, infinity, is written in canonical form."""
     try:
         return json.dumps(_written(value), separators=(",", ":"), default=partial(extended, uuids=uuids))
     except (TypeError, ValueError, OverflowError, RecursionError) as error:

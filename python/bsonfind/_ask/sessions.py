@@ -6,14 +6,15 @@ from contextlib import AbstractContextManager
 from os import getpid
 from typing import Any, Callable, Iterator, TypeVar, overload
 
-from .._names import File
+from .._arguments import File, seconds
+from .._errors import CancelledError, SessionEndedError
+from .._run.processes import Group, check_owner
 from .decoding import Decode, Decoding, Dicts, Raw
-from .distinct import Distinct, Values
 from .plans import Plan, now
 from .questions import Questions
 from .readings import Reading
 from .requests import Filter, Hint, Request, Sort, use_of
-from .values import Uuids, uuids_of
+from .values import Distinct, Uuids, Values, uuids_of
 
 T = TypeVar("T")
 Result = TypeVar("Result")
@@ -30,16 +31,11 @@ class Session(AbstractContextManager["Session"]):
     """
 
     def __init__(
-        self,
-        path: File,
-        program: str = "bsonfind",
-        *,
-        timeout: float | None = None,
-        uuid_representation: Uuids = "standard",
+        self, path: File, program: str = "bsonfind", *, timeout: float | None = None, uuid_representation: Uuids = "standard"
     ) -> None:
         """Opens a dump. UUIDs are those of `find`."""
-        self._uuids = uuids_of(uuid_representation)
-        self._questions = Questions(path, program, timeout)
+        self._uuids, self._timeout, self._group = uuids_of(uuid_representation), seconds(timeout), Group()
+        self._questions = Questions(path, program, self._group, self._timeout)
 
     # fmt: off
     @overload
@@ -57,101 +53,84 @@ class Session(AbstractContextManager["Session"]):
         self, filter: Filter | None = None, *, sort: Sort | None = None, skip: int = 0, limit: int = 0, batch_size: int = 100,
         hint: Hint | None = None, after: str | None = None, decode: Callable[[bytes], T],
     ) -> Cursor[T]: ...
-    # fmt: on
     def find(
-        self,
-        filter: Filter | None = None,
-        *,
-        sort: Sort | None = None,
-        skip: int = 0,
-        limit: int = 0,
-        batch_size: int = 100,
-        hint: Hint | None = None,
-        after: str | None = None,
-        decode: Decode[Any] = "plain",
+        self, filter: Filter | None = None, *, sort: Sort | None = None, skip: int = 0, limit: int = 0, batch_size: int = 100,
+        hint: Hint | None = None, after: str | None = None, decode: Decode[Any] = "plain",
     ) -> Cursor[Any]:
+        # fmt: on
         """Opens a cursor over an answer, or over what follows a token of the same request.
 
         Documents are read `batch_size` at a time, or fewer if they are long. `hint` says how they are found, as in pymongo: the path
         of an index, [(PATH, 1)], or {"$natural": 1} for a scan. Without it the program chooses.
         """
         request = Request.of(filter, sort, skip, limit, self._uuids)
-        return Cursor(self._questions, Reading(request, use_of(hint), batch_size, after, Decoding(decode, self._uuids)))
+        return Cursor(self, Reading(request, use_of(hint), batch_size, after, Decoding(decode, self._uuids)))
 
-    def _do(self, plan: Plan[T]) -> T:
-        with self._questions.in_time():
-            return now(plan)
+    def _do(self, plan_of: Callable[[Questions], Plan[Result]]) -> Result:
+        with self._group.within(self._timeout):
+            return now(plan_of(self._questions))
 
     # fmt: off
     @overload
     def find_one(
-        self, filter: Filter | None = None, *, sort: Sort | None = None, skip: int = 0, hint: Hint | None = None,
-        decode: Dicts = "plain",
+        self, filter: Filter | None = None, *, sort: Sort | None = None, skip: int = 0, hint: Hint | None = None, decode: Dicts = "plain"
     ) -> dict[str, Any] | None: ...
     @overload
     def find_one(
-        self, filter: Filter | None = None, *, sort: Sort | None = None, skip: int = 0, hint: Hint | None = None,
-        decode: Raw,
+        self, filter: Filter | None = None, *, sort: Sort | None = None, skip: int = 0, hint: Hint | None = None, decode: Raw
     ) -> bytes | None: ...
     @overload
     def find_one(
         self, filter: Filter | None = None, *, sort: Sort | None = None, skip: int = 0, hint: Hint | None = None,
         decode: Callable[[bytes], T],
     ) -> T | None: ...
-    # fmt: on
     def find_one(
-        self,
-        filter: Filter | None = None,
-        *,
-        sort: Sort | None = None,
-        skip: int = 0,
-        hint: Hint | None = None,
+        self, filter: Filter | None = None, *, sort: Sort | None = None, skip: int = 0, hint: Hint | None = None,
         decode: Decode[Any] = "plain",
     ) -> Any:
+        # fmt: on
         """The first document of an answer, None if it has none."""
         ask: Callable[..., Cursor[Any]] = self.find
-        with self._questions.in_time(), ask(filter, sort=sort, skip=skip, limit=1, hint=hint, decode=decode) as cursor:
+        with self._group.within(self._timeout), ask(filter, sort=sort, skip=skip, limit=1, hint=hint, decode=decode) as cursor:
             return next(cursor, None)
 
     def count_documents(self, filter: Filter | None = None) -> int:
         """How many documents match."""
-        return self._do(self._questions.count(Request.of(filter, uuids=self._uuids)))
+        request = Request.of(filter, uuids=self._uuids)
+        return self._do(lambda it: it.count(request))
 
     def distinct(self, key: str, filter: Filter | None = None, *, decode: Values = "plain") -> list[Any]:
         """The values of a field in the documents that match, each once: of an array each element, and numbers by their values."""
         distinct = Distinct(key, decode, self._uuids)
-        with self._questions.in_time():
+        with self._group.within(self._timeout):
             for document in self.find(filter, decode="canonical"):
                 distinct.add(document)
         return distinct.values()
 
     def create_index(self, path: str, sparse: bool = False) -> dict[str, Any]:
         """Makes an index on a path: how many `entries` it has, and whether a document has more than one (`multikey`)."""
-        return self._do(self._questions.create_index(path, sparse))
+        return self._do(lambda it: it.create_index(path, sparse))
 
     def drop_index(self, path: str) -> None:
         """Drops the index on a path; cursors that were opened by it give the same."""
-        self._do(self._questions.drop_index(path))
+        self._do(lambda it: it.drop_index(path))
 
     def explain(
-        self,
-        filter: Filter | None = None,
-        *,
-        sort: Sort | None = None,
-        skip: int = 0,
-        limit: int = 0,
-        hint: Hint | None = None,
+        self, filter: Filter | None = None, *, sort: Sort | None = None, skip: int = 0, limit: int = 0, hint: Hint | None = None
     ) -> dict[str, Any]:
         """How an answer is found: the `plan`, the path of the `index`, and how many `entries`, `documents` and `matches`."""
         request = Request.of(filter, sort, skip, limit, self._uuids)
-        return self._do(self._questions.explain(request, use_of(hint)))
+        return self._do(lambda it: it.explain(request, use_of(hint)))
 
     def cancel(self) -> None:
         """Ends the session at once, from any thread: a call that waits for a reply gets a `CancelledError`."""
-        self._questions.cancel()
+        self._questions.check()
+        self._group.end(CancelledError("cancelled"))
 
     def close(self) -> None:
         """Ends the session."""
+        self._questions.check()
+        self._group.end(SessionEndedError("the session was closed"))
         self._questions.close()
 
     def __exit__(self, *_: object) -> None:
@@ -165,42 +144,33 @@ class Cursor(Iterator[T], AbstractContextManager["Cursor[T]"]):
     gives the documents after it; a cursor that was interrupted while it read says so by a `CursorStateError`.
     """
 
-    def __init__(self, questions: Questions, reading: Reading[T]) -> None:
-        self._questions, self._reading = questions, reading
-        self._owner = getpid()
-        self._do(reading.open)
+    def __init__(self, session: Session, reading: Reading[T]) -> None:
+        self._session, self._reading, self._owner = session, reading, getpid()
+        session._do(reading.open)
 
     def __next__(self) -> T:
-        if getpid() != self._owner:
-            self._questions.check()
+        check_owner(self._owner)
         reading = self._reading
         if not reading.held.documents.left and not reading.is_at_end:
-            self._do(reading.read_on)
+            self._session._do(reading.read_on)
         documents = reading.held.documents
         if reading.is_closed or not documents.left:
             raise StopIteration
         document: T = documents.give()
         return document
 
-    def _do(self, plan_of: Callable[[Questions], Plan[Result]]) -> Result:
-        with self._questions.in_time():
-            return now(plan_of(self._questions))
-
     @property
     def token(self) -> str | None:
-        """The token that leads on to what follows the documents that were given; None if none was.
-
-        Within a batch the program is asked for it, by a cursor that gives the same documents again.
-        """
-        return self._do(self._reading.token)
+        """The token that leads on to what follows the documents that were given; None if none was."""
+        return self._session._do(self._reading.token)
 
     def explain(self) -> dict[str, Any]:
         """How the answer is found, as `Session.explain` says it."""
-        return self._do(self._reading.explain)
+        return self._session._do(self._reading.explain)
 
     def close(self) -> None:
         """Closes the cursor: no document follows. Its token stays."""
-        self._questions.check()
+        check_owner(self._owner)
         self._reading.close()
 
     def __exit__(self, *_: object) -> None:

@@ -7,21 +7,18 @@ from concurrent.futures import ThreadPoolExecutor, as_completed
 from dataclasses import dataclass, field, replace
 from typing import Callable, Iterable
 
+from .._arguments import File, name_of, whole
 from .._dumps.archive import Archive, Listed
 from .._dumps.archive_frames import Namespace
-from .._dumps.checking import Checking
 from .._dumps.files import name_in
-from .._dumps.sources import Source
+from .._dumps.runs import Checking
+from .._dumps.sources import Source, Unwatched, Watch
 from .._errors import ArgumentError, BsonfindError, is_finding, why
-from .._names import File, name_of
-from .._numbers import whole
-from .._run.processes import Group, processors
-from .._run.wide import wide_program
+from .._run.processes import Group, processors, wide_program
 from .backups import Dump, dumps_of, is_inside, namespace_of, place_of, read_log, text_lines
 from .metadata import fault_of_listed, fault_of_metadata
 from .reports import MOST_FAULTS, Audit, Noting, Report
 from .split import split
-from .watching import Unwatched, Watch
 
 
 def audit(
@@ -53,18 +50,14 @@ def audit_dumps(
     watch: Callable[[int, int], Watch] = lambda files, size: Unwatched(),
     take_list: Callable[[str, list[Listed]], None] = lambda name, listed: None,
 ) -> Audit:
-    """Checks dumps, and passes on the report of each as soon as it is there, and the list of its archive.
-
-    What prints how far it is gets how many files and bytes.
-    """
-    log = read_log(text_lines(expect)) if expect is not None else None
+    """Checks dumps, and passes on the report of each as soon as it is there, and the list of its archive; `watch` gets their sizes."""
+    counts = None if expect is None else read_log(text_lines(expect))
     wide_program(program)
     sizes = {it.file: it.size or 0 for it in dumps}
     with watch(len(dumps), sum(sizes.values())) as progress:
         reports = _check_all(dumps, _Checker(max_faults, program, take, take_list, progress), jobs or processors())
     missing: dict[str, int] = {}
-    if log:
-        counts = {**log.documents, **({} if log.oplog is None else {"oplog": log.oplog})}
+    if counts is not None:
         there = _collections(reports, counts)
         for report in there.values():
             report.compare(counts)
@@ -132,15 +125,16 @@ class _Checker:
         """The reports of a file, or of each collection of an archive, the list of an archive, and whether it is one."""
         report, is_archive = Report(dump.name, error=dump.error, is_fault=dump.is_fault), False
         listed: list[Listed] = []
-        if not dump.error:
-            try:
-                with Source(dump.name) as source, self._progress.over(source):
-                    listed, is_archive = source.listed, source.is_archive
-                    if is_archive:
-                        return self._check_archive(source, listed), listed, True
-                    self._check_documents(report, source)
-            except (BsonfindError, OSError) as error:
-                self._note(report, error)
+        if dump.error:
+            return [report], listed, False
+        try:
+            with Source(dump.name) as source, self._progress.over(source):
+                listed, is_archive = source.listed, source.is_archive
+                if is_archive:
+                    return self._check_archive(source, listed), listed, True
+                self._check_documents(report, source)
+        except (BsonfindError, OSError) as error:
+            self._note(report, error)
         return [report], listed, is_archive
 
     def _name(self, report: Report, dump: Dump, is_archive: bool) -> None:
@@ -164,10 +158,8 @@ class _Checker:
         reports: dict[Namespace, Report] = {}
 
         def report_of(namespace: Namespace) -> Report:
-            if namespace not in reports:
-                name = name_in(source.name, namespace)
-                reports[namespace] = Report(name, namespace=str(namespace_of(name)))
-            return reports[namespace]
+            name = name_in(source.name, namespace)
+            return reports.setdefault(namespace, Report(name, namespace=str(namespace_of(name))))
 
         def check(namespace: Namespace, documents: Source) -> None:
             report = report_of(namespace)

@@ -9,14 +9,14 @@ from base64 import urlsafe_b64encode
 from dataclasses import dataclass
 from hashlib import sha1
 from pathlib import PurePath
-from typing import Any, Iterable, Iterator, NamedTuple
+from typing import Any, Iterable, Iterator
 from urllib.parse import quote, unquote
 
+from .._arguments import File, name_of
 from .._dumps.archive import kind_of
 from .._dumps.archive_frames import Namespace
 from .._dumps.files import file_of, is_whole_archive, member_of
 from .._errors import FileError
-from .._names import File, name_of
 from .metadata import OPLOG, is_at_top, is_oplog, read_metadata, read_metadata_file, stem_of_file
 
 _ENDING = re.compile(r"\.bson(\.gz)?$")
@@ -48,13 +48,6 @@ class Dump:
     file: tuple[object, ...] | None = None
 
 
-class Log(NamedTuple):
-    """How many documents of each collection mongodump reports to have dumped, and how many entries of the oplog."""
-
-    documents: dict[str, int]
-    oplog: int | None
-
-
 def dumps_of(names: Iterable[str]) -> list[Dump]:
     """The files of these names, and in place of a directory the dumps below it. A name that is met twice is there once.
 
@@ -63,7 +56,9 @@ def dumps_of(names: Iterable[str]) -> list[Dump]:
     """
     dumps: dict[tuple[str, str | None], Dump] = {}
     for name in names:
-        for dump in dumps_below(name) if name != "-" and os.path.isdir(name) else [_named(name)]:
+        # A shell names also the files beside dumps.
+        error = "no dump: mongodump writes it beside dumps" if _BESIDE.search(os.path.basename(name)) else None
+        for dump in dumps_below(name) if name != "-" and os.path.isdir(name) else [Dump(name, error=error)]:
             directory, base = os.path.split(dump.name)
             path = name if name == "-" else os.path.join(os.path.realpath(directory), base)
             first = dumps.setdefault((path, dump.error), dump)
@@ -71,11 +66,6 @@ def dumps_of(names: Iterable[str]) -> list[Dump]:
             if first is dump and not dump.error:
                 _look_at(dump)
     return list(dumps.values())
-
-
-def _named(name: str) -> Dump:
-    """The dump of a name, such as that of any file below a directory whose files a shell has named."""
-    return Dump(name, error="no dump: mongodump writes it beside dumps" if _BESIDE.search(os.path.basename(name)) else None)
 
 
 def _look_at(dump: Dump) -> None:
@@ -91,10 +81,7 @@ def _look_at(dump: Dump) -> None:
 
 
 def dumps_below(directory: str) -> Iterator[Dump]:
-    """The dumps and archives below a directory, in the order of their names, and what cannot be found there or is missing.
-
-    A directory without any is an error, such as where a disk is missing; that of a database may have views alone.
-    """
+    """The dumps and archives below a directory, by their names, and what cannot be found there; none at all is an error."""
     waiting: list[str | Dump] = [directory]
     while waiting:
         found = waiting.pop()
@@ -157,23 +144,20 @@ def text_lines(path: File) -> list[str]:
         raise FileError(error.errno, error.strerror, name) from None
 
 
-def read_log(lines: Iterable[str]) -> Log:
-    """What the log of mongodump says."""
+def read_log(lines: Iterable[str]) -> dict[str, int]:
+    """How many documents of each collection the log of mongodump reports, and at last how many entries of the oplog."""
     documents: dict[str, int] = {}
-    oplog = None
+    oplog: dict[str, int] = {}
     for line in lines:
         if found := _DUMPED.search(line):
             documents[found.group(1).replace("`", "")] = int(found.group(2))
         elif found := _OPLOG_DUMPED.search(line):
-            oplog = int(found.group(1))
-    return Log(documents, oplog)
+            oplog = {"oplog": int(found.group(1))}
+    return {**documents, **oplog}
 
 
 def namespace_of(name: str) -> Namespace:
-    """The database and the collection whose dump a file is: by its directory, and by its name or the metadata beside it.
-
-    mongodump shortens the name of a file whose collection has a long name, so the name in the metadata decides.
-    """
+    """The database and the collection whose dump a file is: by its directory, and by the metadata, since long names are shortened."""
     if name == "-":
         return Namespace("", name)
     if is_oplog(name):
@@ -196,15 +180,11 @@ def place_of(name: str) -> str | None:
 
 
 def is_inside(place: str, places: set[str]) -> bool:
-    """Whether a place is below one of others."""
     return any(str(it) in places for it in PurePath(place).parents)
 
 
 def stem_of(namespace: Namespace) -> str:
-    """The name of a file by mongodump for a collection, below its directory and without an ending.
-
-    A collection without a database, and one of a database that begins with "$", is at the top.
-    """
+    """The name of a file by mongodump for a collection, without an ending: at the top if the database is empty or begins with "$"."""
     escaped = quote(namespace.collection, _UNESCAPED)
     if len(escaped) > _LONGEST_STEM:
         digest = urlsafe_b64encode(sha1(namespace.collection.encode()).digest()).decode().rstrip("=")
@@ -213,10 +193,7 @@ def stem_of(namespace: Namespace) -> str:
 
 
 def stem_wanted(path: str, metadata: dict[str, Any] | None) -> str | None:
-    """The name without an ending of the dump whose metadata is in this file, None of a view, which has none.
-
-    That of a time series is the dump of its buckets.
-    """
+    """The name without an ending of the dump of this metadata: of a time series that of its buckets, None of a view, which has none."""
     stem, kind = _METADATA.sub("", os.path.basename(path)), kind_of(metadata)
     if kind == "view":
         return None

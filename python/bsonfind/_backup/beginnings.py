@@ -1,4 +1,4 @@
-"""Where documents begin again after a wrong length, which is a guess."""
+"""The bytes of a stream that a salvage looks at, and where documents begin in it after a wrong length, which is a guess."""
 
 from __future__ import annotations
 
@@ -6,11 +6,12 @@ import re
 import struct
 from typing import Iterable, Iterator, NamedTuple
 
-from .._dumps.checking import all_faults, checking
 from .._dumps.framing import LONGEST, SHORTEST
+from .._dumps.gzip import UnpackError
+from .._dumps.runs import all_faults, checking
+from .._errors import why
 from .._faults import NO_DAMAGE
 from .._run.processes import Dump, Group
-from .window import Window
 
 # From this many documents in a row, or from fewer that end with the file, a place is guessed to be the beginning of a document.
 IN_A_ROW = 4
@@ -30,7 +31,77 @@ _MOST_CHAINS = 1024
 # How many bytes of chains one run looks at, once it has this many.
 _MOST = 1 << 22
 _PIECE = 1 << 20
+# How many bytes are passed at once at most before the next piece is asked for.
+_MOST_AT_ONCE = 1 << 20
 _length_at = struct.Struct("<i").unpack_from
+
+
+class Window:
+    """The bytes of a stream from a place on, as far as they were asked for."""
+
+    def __init__(self, pieces: Iterator[bytes]) -> None:
+        self._pieces = pieces
+        self._held, self.start = bytearray(), 0
+        # What ended the stream before its end.
+        self.error: str | None = None
+
+    @property
+    def end(self) -> int:
+        """The place after the last byte that was read."""
+        return self.start + len(self._held)
+
+    def has(self, end: int) -> bool:
+        """Whether the stream reaches that far."""
+        while self.end < end:
+            try:
+                piece = next(self._pieces, b"")
+            except (UnpackError, OSError) as error:
+                self.error, piece = why(error), b""
+            if not piece:
+                return False
+            self._held += piece
+        return True
+
+    def part(self, start: int, end: int) -> bytes:
+        """The bytes there that were read."""
+        with memoryview(self._held) as view:
+            return view[start - self.start : end - self.start].tobytes()
+
+    def byte(self, at: int) -> int:
+        return self._held[at - self.start]
+
+    def put_back(self, start: int, data: bytes) -> None:
+        """Takes bytes again that were dropped, from a place on up to the first one that is kept."""
+        self._held[:0] = data
+        self.start = start
+
+    def drop(self, end: int) -> None:
+        del self._held[: end - self.start]
+        self.start = end
+
+    def document_end(self, at: int) -> int | None:
+        """Where the document ends that begins there, by its length; None if this is wrong."""
+        if not self.has(at + SHORTEST):
+            return None
+        (length,) = _length_at(self._held, at - self.start)
+        return at + length if SHORTEST <= length <= LONGEST and self.has(at + length) else None
+
+    def document_ends(self, at: int, size: int, most: int) -> list[int]:
+        """Where documents end, one after the other, up to a wrong length or beyond this many bytes or documents."""
+        ends: list[int] = []
+        until = at + size
+        while at < until and len(ends) < most and self.document_end(at) is not None:
+            held, start, last = self._held, self.start, len(self._held)
+            here = at - start
+            stop = min(last - 4, until - start, here + _MOST_AT_ONCE)
+            while here < stop:
+                (length,) = _length_at(held, here)
+                if not SHORTEST <= length <= LONGEST or here + length > last:
+                    break
+                here += length
+                ends.append(start + here)
+            at = start + here
+        return ends
 
 
 class Beginnings:
@@ -64,7 +135,8 @@ class Beginnings:
         data = self._window.part(start, min(end + _BEFORE, self._window.end))
         places = _places(pattern, data, SHORTEST, not is_whole)
         for beginning in self._undamaged(self._chain(start + it, start) for it in places):
-            return beginning, not self._reaches(beginning, end) and self._is_end_or_beginning(end)
+            is_end = not self._window.has(end + 1)
+            return beginning, not self._reaches(beginning, end) and (is_end or any(True for _ in self._undamaged([self._chain(end)])))
         return None, False
 
     def _reaches(self, at: int, end: int) -> bool:
@@ -75,9 +147,6 @@ class Beginnings:
                 return False
             at = after
         return True
-
-    def _is_end_or_beginning(self, at: int) -> bool:
-        return not self._window.has(at + 1) or any(True for _ in self._undamaged([self._chain(at)]))
 
     def _chain(self, at: int, start: int | None = None) -> Chain | None:
         """The documents that seem to follow, by their lengths, the types of their first elements and their last bytes.
@@ -92,7 +161,7 @@ class Beginnings:
                 return None
             end, documents = after, documents + 1
         before = b""
-        if start is not None and _is_field(self._window.part_before(at, _LONGEST_NAME)):
+        if start is not None and _is_field(self._window.part(max(at - _LONGEST_NAME, self._window.start), at)):
             if not SHORTEST <= at - start <= LONGEST or start < self._window.start:
                 return None
             before = (at - start).to_bytes(4, "little") + self._window.part(start + 4, at)

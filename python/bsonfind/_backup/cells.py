@@ -5,7 +5,7 @@ from __future__ import annotations
 import struct
 from typing import Any, Sequence
 
-from .._dumps.numbers import DECIMAL, DOUBLE, number_of
+from .._dumps.paths import DECIMAL, DOUBLE, number_of
 
 # The names of types, as `$type` of a query takes them.
 NAMES = {
@@ -38,7 +38,6 @@ class Cell:
         self._first: bytes | None = None
 
     def look(self) -> None:
-        """Looks at the values that wait."""
         if not self.waiting:
             return
         if self._first is None:
@@ -86,7 +85,6 @@ class Cell:
 
     @property
     def greatest(self) -> bytes | None:
-        """The greatest value."""
         return None if self._high is None else self._value(self._high)
 
     @property

@@ -1,24 +1,28 @@
-"""Compares two dumps, or the dumps of two directories, in memory that does not grow with them."""
+"""Compares two dumps, or the dumps of two directories, in memory that does not grow with them: more lines than fit into it are sorted."""
 
 from __future__ import annotations
 
+import heapq
 import os
+import tempfile
 from collections import Counter
+from contextlib import AbstractContextManager
 from hashlib import blake2b
-from typing import Callable, Iterator, NamedTuple, Sequence
+from itertools import groupby
+from typing import IO, Callable, Iterable, Iterator, NamedTuple, Sequence
 
-from .._dumps.checking import each_document
 from .._dumps.elements import value_at
 from .._dumps.files import is_whole_archive
-from .._dumps.printing import texts_of_values
+from .._dumps.runs import each_document, texts_of_values
 from .._dumps.sources import Source
-from .._errors import BsonfindError, why
+from .._errors import BsonfindError, ProgramError, why
 from .backups import dumps_below
-from .sorting import Sorter
 from .texts import batches
 
 # How documents differ, in the order in which they are counted.
 KINDS = ("same", "changed", "removed", "added")
+# This many lines, or bytes of lines, are sorted in memory, and this many files of sorted lines are merged at once.
+_MOST_LINES, _MOST_BYTES, _MOST_RUNS = 1 << 18, 1 << 25, 64
 
 
 class CompareError(BsonfindError):
@@ -34,10 +38,7 @@ class Pair(NamedTuple):
 
 
 class Comparison(NamedTuple):
-    """How many documents two dumps have, and how many of them are of each kind, have the key of another one, or none.
-
-    `alone` counts the dumps that only one of two directories has.
-    """
+    """How many documents two dumps have, and of each kind, how many have the key of another or none, and how many dumps are alone."""
 
     documents: tuple[int, int]
     kinds: Counter[str]
@@ -51,7 +52,6 @@ class Comparison(NamedTuple):
         return not (self.alone or any(self.kinds[kind] for kind in KINDS[1:]))
 
     def __add__(self, other: Comparison) -> Comparison:  # type: ignore[override]
-        """The counts of both together."""
         first, second = (a + b for a, b in zip(self.documents, other.documents))
         counts = (a + b for a, b in zip(self[2:], other[2:]))
         return Comparison((first, second), self.kinds + other.kinds, *counts)
@@ -109,7 +109,7 @@ def compare(pair: Pair, path: str, program: str, say: Callable[[str], None]) -> 
         counts: Counter[str] = Counter()
         for lines in batches(_differences(sorter.all(), path, counts), lambda line: len(line[1])):
             values = [bytes.fromhex(key.decode()) for _, key, _ in lines if key]
-            texts = iter(texts_of_values(values, program) if values else ())
+            texts = iter(texts_of_values(values, program))
             for before, key, after in lines:
                 say(f"{before}{next(texts) if key else ''}{after}")
     repeated, without = counts.pop("repeated", 0), counts.pop("without", 0)
@@ -138,29 +138,17 @@ def _differences(lines: Iterator[bytes], path: str, counts: Counter[str]) -> Ite
 
 
 def _by_key(lines: Iterator[bytes]) -> Iterator[tuple[bytes, int, int, int]]:
-    """Each key of sorted lines, how many documents of it each dump has, and how many of these are the same in both.
-
-    A line has the key, a digest of the document, and which dump it is of.
-    """
-    key, document = b"", b""
-    first = second = same = one = other = 0
-    for line in lines:
-        found = line[:-2]
-        if found != document:
-            first, second, same = first + one, second + other, same + min(one, other)
+    """Each key of sorted lines, how many documents of it each dump has, and how many are the same: a line has key, digest and dump."""
+    for key, alike in groupby(lines, lambda line: line[: line.index(b"\t")]):
+        first = second = same = 0
+        for _, equal in groupby(alike, lambda line: line[:-2]):
             one = other = 0
-            document, found = found, found[: found.index(b"\t")]
-            if found != key:
-                if first or second:
-                    yield key, first, second, same
-                key = found
-                first = second = same = 0
-        if line.endswith(b"0\n"):
-            one += 1
-        else:
-            other += 1
-    first, second, same = first + one, second + other, same + min(one, other)
-    if first or second:
+            for line in equal:
+                if line.endswith(b"0\n"):
+                    one += 1
+                else:
+                    other += 1
+            first, second, same = first + one, second + other, same + min(one, other)
         yield key, first, second, same
 
 
@@ -183,7 +171,6 @@ def _each_document(name: str, program: str, take: Callable[[bytes], None]) -> in
 
 
 def rows(done: Comparison, names: Sequence[str], path: str) -> list[tuple[str, int]]:
-    """The table of counts."""
     named = f"with the {path} of another", f"without {path}", "dumps of one alone"
     more = zip(named, (done.repeated, done.without, done.alone))
     return [
@@ -191,3 +178,50 @@ def rows(done: Comparison, names: Sequence[str], path: str) -> list[tuple[str, i
         *((kind, done.kinds[kind]) for kind in KINDS),
         *((name, count) for name, count in more if count),
     ]
+
+
+class Sorter(AbstractContextManager["Sorter"]):
+    """Lines that are sorted by way of files without names, in the directory for temporary files."""
+
+    def __init__(self) -> None:
+        self._lines: list[bytes] = []
+        self._size = 0
+        self._runs: list[IO[bytes]] = []
+
+    def add(self, line: bytes) -> None:
+        """Takes a line, with its newline."""
+        self._lines.append(line)
+        self._size += len(line)
+        if len(self._lines) >= _MOST_LINES or self._size >= _MOST_BYTES:
+            self._lines.sort()
+            self._write(self._lines)
+            self._lines, self._size = [], 0
+            if len(self._runs) == _MOST_RUNS:
+                runs, self._runs = self._runs, []
+                self._write(heapq.merge(*runs))
+                _close(runs)
+
+    def all(self) -> Iterator[bytes]:
+        """All lines, in the order of their bytes."""
+        self._lines.sort()
+        return iter(heapq.merge(*self._runs, self._lines))
+
+    def _write(self, lines: Iterable[bytes]) -> None:
+        try:
+            run = tempfile.TemporaryFile()
+            self._runs.append(run)
+            run.writelines(lines)
+            run.seek(0)
+        except OSError as error:
+            raise ProgramError(f"cannot sort in {tempfile.gettempdir()}: {error.strerror}: TMPDIR names another directory") from error
+
+    def __exit__(self, *_: object) -> None:
+        _close(self._runs)
+
+
+def _close(runs: Iterable[IO[bytes]]) -> None:
+    for run in runs:
+        try:
+            run.close()
+        except OSError:
+            pass  # What was not written is not read.

@@ -6,13 +6,12 @@ from typing import NamedTuple, Sequence
 
 from .._dumps.elements import value_at
 from .._dumps.framing import LONGEST
-from .._dumps.printing import texts_of_values
+from .._dumps.runs import texts_of_values
 from .._dumps.sources import Source
 from .._errors import DumpError
 from .._faults import Fault
 from .._run.processes import Group
-from .beginnings import Beginnings
-from .window import Window
+from .beginnings import Beginnings, Window
 
 # The faults of a byte that has a value which it must not have, and those of the length of a document.
 _OF_A_BYTE = ("bad boolean", "not UTF-8", "unknown type")
@@ -23,10 +22,7 @@ _PIECE = 1 << 20
 
 
 class Detail(NamedTuple):
-    """What is known of a damaged document: the bad byte, the `_id` as text, and the byte from which other documents continue.
-
-    That byte is a guess, which `salvage` makes too. What cannot be read is None.
-    """
+    """What is known of a damaged document: the bad byte, the `_id` as text, and a guess of the byte from which other documents continue."""
 
     value: int | None = None
     id: str | None = None
@@ -45,10 +41,7 @@ def is_of_a_length(fault: Fault) -> bool:
 
 
 def details_of(source: Source, faults: Sequence[Fault], program: str, group: Group) -> dict[int, Detail]:
-    """The details of some faults of a file, in their order, by the numbers of their documents; of a pipe there are none.
-
-    The file is read again, up to the last of them.
-    """
+    """The details of some faults of a file, in their order, by the numbers of their documents; the file is read again, a pipe has none."""
     details: dict[int, Detail] = {}
     if source.size is None:
         return details

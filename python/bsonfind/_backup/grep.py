@@ -13,16 +13,14 @@ from .._dumps.archive import Archive, is_archive
 from .._dumps.archive_frames import Namespace, joined_pieces
 from .._dumps.files import HEAD, member_of, name_in
 from .._dumps.gzip import is_gzip
-from .._dumps.printing import texts_of_values
-from .._dumps.sources import Source
+from .._dumps.runs import texts_of_values
+from .._dumps.sources import Source, Watch
 from .._errors import BsonfindError, is_finding, why
-from .._run.processes import Group
-from .._run.wide import wide_program
+from .._run.processes import Group, wide_program
 from .backups import Dump
 from .salvage import Copied, Salvaging
 from .search import Found, Match, Search, Wanted
 from .split import split
-from .watching import Watch
 from .workers import Workers, begun_ahead
 
 # How many files are begun at once at most, and how many bytes one search has.
@@ -74,10 +72,7 @@ def wanted_of(text: str, ignores_case: bool, with_values: bool) -> Wanted:
 def grep_dumps(
     dumps: Sequence[Dump], wanted: Wanted, jobs: int, program: str, watch: Callable[[int, int], Watch]
 ) -> Generator[Item, None, None]:
-    """What is found in dumps, in their order, and what is wrong with them; this many processes search at once.
-
-    The documents of a dump are in its order, those of an archive as they come.
-    """
+    """What is found in dumps, in their order, in archives as it comes, and what is wrong with them; this many processes search at once."""
     wide_program(program)
     with watch(len(dumps), sum(it.size or 0 for it in dumps)) as progress:
         grep = _Grep(wanted, jobs, program, progress)
@@ -163,7 +158,7 @@ class _Grep:
         try:
             found: Found = self._workers.run(data)
             values = [value for match in (*found.matches, *found.slow) for value in (match.id, *(it for _, it in match.fields)) if value]
-            texts = iter(texts_of_values(values, self._program, self._group) if values else ())
+            texts = iter(texts_of_values(values, self._program, self._group))
         except BsonfindError as error:
             self._group.end(error)
             raise
@@ -180,7 +175,6 @@ class _Grep:
         return Problem(file, name, why(error), is_finding(error))
 
     def end(self) -> None:
-        """Ends all that runs."""
         self._group.end()
         self._pool.shutdown(cancel_futures=True)
         self._workers.close()

@@ -10,15 +10,13 @@ import re
 from decimal import Decimal
 from typing import Callable
 
-from .._dumps.checking import each_document
 from .._dumps.elements import value_at
 from .._dumps.framing import documents_taken
-from .._dumps.numbers import is_finite, number_of
-from .._dumps.printing import lines_of_documents, pack_lines
+from .._dumps.paths import is_finite, number_of
+from .._dumps.runs import each_document, lines_of_documents, pack_lines
 from .._dumps.sources import Source
 from .._errors import BsonfindError, DumpError, ProgramError
-from .._run.processes import Group
-from .._run.wide import wide_program
+from .._run.processes import Group, wide_program
 
 # How many documents, or bytes of documents, are printed at once.
 _MOST_DOCUMENTS, _MOST_BYTES = 1000, 1 << 22
@@ -30,35 +28,22 @@ class IdError(BsonfindError):
     """A line that is no id."""
 
 
-class Ids:
-    """Ids as the lines of a file have them, each once."""
-
-    def __init__(self, lines: list[str], name: str, program: str) -> None:
-        """Each line is 24 hexadecimal digits or an id as `dump` prints it; in quotation marks where it is a text."""
-        texts: list[tuple[int, str, str]] = []
-        for number, line in enumerate(lines, 1):
-            text = line.strip()
-            if text:
-                text = f'{{"$oid":"{text}"}}' if _OID.fullmatch(text) else text
-                try:
-                    json.loads(text, parse_int=str)
-                except (ValueError, RecursionError):
-                    raise IdError(f"{name}: line {number}: neither JSON nor 24 hexadecimal digits") from None
-                texts.append((number, line, text))
-        # The line of each id, by what it is compared by.
-        self._lines: dict[object, str] = {}
-        for (_, line, _), key in zip(texts, _packed(texts, name, program)):
-            self._lines.setdefault(key, line)
-
-    def __len__(self) -> int:
-        return len(self._lines)
-
-    def __contains__(self, key: object) -> bool:
-        return key in self._lines
-
-    def missing(self, found: set[object]) -> list[str]:
-        """The lines of which no document was found."""
-        return [line for key, line in self._lines.items() if key not in found]
+def ids_of(lines: list[str], name: str, program: str) -> dict[object, str]:
+    """The lines of a file of ids, each once, by what ids are compared by: 24 hexadecimal digits a line, or an id as `dump` prints it."""
+    texts: list[tuple[int, str, str]] = []
+    for number, line in enumerate(lines, 1):
+        text = line.strip()
+        if text:
+            text = f'{{"$oid":"{text}"}}' if _OID.fullmatch(text) else text
+            try:
+                json.loads(text, parse_int=str)
+            except (ValueError, RecursionError):
+                raise IdError(f"{name}: line {number}: neither JSON nor 24 hexadecimal digits") from None
+            texts.append((number, line, text))
+    ids: dict[object, str] = {}
+    for (_, line, _), key in zip(texts, _packed(texts, name, program)):
+        ids.setdefault(key, line)
+    return ids
 
 
 def _packed(texts: list[tuple[int, str, str]], name: str, program: str) -> list[object]:
@@ -85,59 +70,47 @@ def _key(value: bytes) -> object:
     return value if number is None else number if is_finite(number) else str(Decimal(number))
 
 
-class _Finding:
-    """The documents that have one of some ids, as those of a dump pass."""
+def find_ids(path: str, ids: dict[object, str], program: str, take: Callable[[list[bytes]], None], is_bson: bool = False) -> list[str]:
+    """Passes the documents on that have one of the ids, as lines, or with `is_bson` as they are, and gives the lines that have none."""
+    group, found, waiting, size = Group(), set[object](), list[bytes](), 0
+    # Why a document that was found is not passed on, where it has a fault.
+    wrong: list[DumpError] = []
 
-    def __init__(self, ids: Ids, program: str, group: Group, take: Callable[[list[bytes]], None], is_bson: bool) -> None:
-        self._ids, self._program, self._group = ids, program, group
-        self._take, self._is_bson = take, is_bson
-        self._waiting: list[bytes] = []
-        self._size = 0
-        self.found: set[object] = set()
-        # Why a document that was found is not passed on, where it has a fault.
-        self.error: DumpError | None = None
-
-    def look_at(self, document: bytes) -> None:
-        """Takes a document, if its id is one of these."""
+    def look_at(document: bytes) -> None:
+        nonlocal size
         value = value_at(document, [b"_id"])
         key = value and _key(value)
-        if key in self._ids:
-            self.found.add(key)
-            self._waiting.append(document)
-            self._size += len(document)
-            if len(self._waiting) >= _MOST_DOCUMENTS or self._size >= _MOST_BYTES:
-                self.pass_on()
+        if key in ids:
+            found.add(key)
+            waiting.append(document)
+            size += len(document)
+            if len(waiting) >= _MOST_DOCUMENTS or size >= _MOST_BYTES:
+                pass_on()
 
-    def pass_on(self) -> None:
+    def pass_on() -> None:
         """Passes on what was found, if `dump` prints it: then it has no fault."""
-        documents, self._waiting, self._size = self._waiting, [], 0
-        if documents and not self.error:
+        nonlocal size
+        documents, size = waiting[:], 0
+        waiting.clear()
+        if documents and not wrong:
             try:
-                lines = lines_of_documents(documents, self._program, self._group)
+                lines = lines_of_documents(documents, program, group)
             except DumpError as error:
                 if not error.fault:
                     raise
-                self.error = error
+                wrong.append(error)
                 return
-            self._take(documents if self._is_bson else [line + b"\n" for line in lines])
+            take(documents if is_bson else [line + b"\n" for line in lines])
 
-
-def find_ids(path: str, ids: Ids, program: str, take: Callable[[list[bytes]], None], is_bson: bool = False) -> list[str]:
-    """Passes the documents on that have one of the ids, and gives the lines of which there is none.
-
-    Documents are passed on as lines, or with `is_bson` as they are in the dump, in the order of the dump.
-    """
-    group = Group()
-    finding = _Finding(ids, program, group, take, is_bson)
     try:
         with Source(path) as source:
-            each_document(source, program, finding.look_at, group)
-            finding.pass_on()
+            each_document(source, program, look_at, group)
+            pass_on()
             source.check()
-        if finding.error:
-            raise finding.error
+        for error in wrong:
+            raise error
     except DumpError as error:
         raise DumpError(f"{path}: {error}", error.fault) from None
     finally:
         group.end()
-    return ids.missing(finding.found)
+    return [line for key, line in ids.items() if key not in found]

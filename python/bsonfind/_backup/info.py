@@ -10,11 +10,11 @@ from typing import Any, Callable, Iterable, Iterator, NamedTuple, Sequence
 from .._dumps.archive import Listed, kind_of, parsed
 from .._dumps.archive_frames import Namespace
 from .._dumps.files import INSIDE, member_of, name_in
+from .._dumps.sources import Watch
 from .audit import audit_dumps
 from .backups import collection_of, dumps_of, metadata_below, namespace_of, stem_wanted
 from .metadata import read_metadata, stem_of_file
 from .reports import Audit, Report
-from .watching import Watch
 
 COLUMNS = ("database", "collection", "kind", "documents", "bytes", "average", "indexes", "options")
 # What the name of the collection begins with that has the documents of a time series.
@@ -27,10 +27,7 @@ _EXACT = 1 << 53
 
 
 class Entry(NamedTuple):
-    """A collection of a backup. What is not known of it is None; a view has no documents.
-
-    The documents of a time series are its buckets. The bytes are those of the documents, unpacked.
-    """
+    """A collection of a backup, a time series by its buckets, with unpacked bytes. What is not known is None; a view has no documents."""
 
     file: str
     database: str
@@ -47,7 +44,6 @@ class Entry(NamedTuple):
         return (2 * (self.bytes or 0) + self.documents) // (2 * self.documents) if self.documents else None
 
     def as_json(self) -> str:
-        """All that is known, as one line of JSON."""
         return json.dumps({name: getattr(self, name) for name in (*COLUMNS, "file")})
 
     def cells(self) -> list[str]:
@@ -136,7 +132,9 @@ def _ordered(entries: list[Entry], names: Sequence[str]) -> list[Entry]:
     """The collections by what they are in, and by name. Two that have the names of GridFS are of this kind."""
 
     def key(entry: Entry) -> tuple[int, str, str]:
-        return next((n for n, it in enumerate(names) if _is_in(entry.file, it)), len(names)), entry.database, entry.collection
+        # A file is the one of a name, or is in it, which is a directory or an archive.
+        among = (n for n, it in enumerate(names) if entry.file == it or entry.file.startswith((os.path.join(it, ""), it + INSIDE)))
+        return next(among, len(names)), entry.database, entry.collection
 
     there = {key(it) for it in entries if it.kind == "collection"}
     for number, entry in enumerate(entries):
@@ -144,11 +142,6 @@ def _ordered(entries: list[Entry], names: Sequence[str]) -> list[Entry]:
             if entry.collection.endswith(end) and {key(entry), (*key(entry)[:2], entry.collection[: -len(end)] + other)} <= there:
                 entries[number] = entry._replace(kind="gridfs")
     return sorted(entries, key=key)
-
-
-def _is_in(file: str, name: str) -> bool:
-    """Whether a file is the one of a name, or is in it, which is a directory or an archive."""
-    return file == name or file.startswith((os.path.join(name, ""), name + INSIDE))
 
 
 def _plain(value: Any) -> Any:
@@ -171,5 +164,4 @@ def _number(value: dict[str, Any]) -> Any:
 
 
 def _text(value: Any) -> str:
-    """A value as JSON."""
     return json.dumps(value, ensure_ascii=False, separators=(",", ":"))

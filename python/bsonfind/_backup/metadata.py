@@ -40,10 +40,7 @@ def is_at_top(namespace: Namespace) -> bool:
 
 
 def fault_of_metadata(name: str, is_below: bool) -> str | None:
-    """What is wrong with the metadata beside a dump, from which mongorestore takes indexes and options.
-
-    Below a directory there must be some, but for the oplog and the like. A file that is named by itself may have none.
-    """
+    """What is wrong with the metadata beside a dump. A file that is named by itself may have none, and so may the oplog and the like."""
     metadata, error = read_metadata(name)
     if error:
         return error

@@ -1,16 +1,16 @@
-"""One query over many dumps."""
+"""One query over many dumps, or over some documents that have no fault."""
 
 from __future__ import annotations
 
+from contextlib import contextmanager
 from typing import Iterator, NamedTuple, Sequence
 
-from .._ask.lines import counted, try_request
+from .._ask.lines import Lines, counted, try_request
 from .._ask.requests import Request
-from .._dumps.printing import lines_of
+from .._dumps.runs import lines_of
 from .._dumps.sources import Source
 from .._errors import BsonfindError, DumpError
-from .._run.processes import Group, Run
-from .._run.wide import wide_program
+from .._run.processes import Dump as Input, Group, Run, wide_program
 from .backups import Dump
 from .workers import begun_ahead
 
@@ -56,3 +56,31 @@ def _answer(dump: Dump, request: Request, program: str, group: Group) -> Iterato
         yield Found(name, [])
     except (BsonfindError, OSError) as error:
         yield Found(name, [], error)
+
+
+class Matching:
+    """The answer to a query, as `find` gives it. One that is refused is raised at once."""
+
+    # How many bytes of documents are asked at once.
+    most = 1 << 24
+
+    def __init__(self, query: str, program: str) -> None:
+        self._request, self._program = Request(query), program
+        try_request(self._request, program)
+
+    def of(self, documents: list[bytes]) -> list[bytes]:
+        """Those of some documents that match."""
+        with self._asked(documents) as found:
+            return [it for batch in found.batches() for it in batch]
+
+    def count(self, documents: list[bytes]) -> int:
+        with self._asked(documents) as found:
+            return found.count()
+
+    @contextmanager
+    def _asked(self, documents: list[bytes]) -> Iterator[Lines]:
+        try:
+            yield Lines(Input([b"".join(documents)]), self._request, self._program, is_bson=True)
+        except DumpError as error:
+            # It counts in these documents, so it has no place in the dump. What a part of it matches is no answer.
+            raise BsonfindError(error.text.rpartition(": ")[2]) from None

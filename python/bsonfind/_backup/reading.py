@@ -7,14 +7,12 @@ from collections import deque
 from contextlib import closing
 from typing import Callable, Iterable, List
 
-from .._dumps.checking import all_faults, checking
 from .._dumps.framing import LONGEST, documents_taken, inputs
-from .._dumps.printing import Batches
-from .._dumps.sources import Source, up_to_error
+from .._dumps.runs import Batches, all_faults, checking
+from .._dumps.sources import Source, Watch, up_to_error
 from .._errors import DumpError, is_finding, why
 from .._run.processes import Dump, Group
 from .reports import MOST_FAULTS, Noting, Report
-from .watching import Watch
 
 # How many bytes of documents are read at once.
 _MOST = 1 << 22

@@ -8,7 +8,7 @@ from dataclasses import dataclass, field
 from typing import Any, Iterator, NamedTuple
 
 from .._dumps.sources import Source
-from .._faults import Fault, NO_DAMAGE
+from .._faults import NO_DAMAGE, Fault
 from .._run.processes import Group
 from .damage import Detail, details_of, is_of_a_length
 
@@ -93,15 +93,15 @@ class Report:
         if self.metadata:
             yield f"metadata: {self.metadata}"
 
-    def _fault_as_json(self, fault: Fault) -> dict[str, Any]:
-        detail = self.details.get(fault.document, Detail())
-        told = {**detail._asdict(), "id": None if detail.id is None else json.loads(detail.id)}
-        return {**dict(zip(("document", "byte", "path", "kind"), fault)), **told}
-
     def as_json(self) -> dict[str, Any]:
         """The report as an object of JSON."""
+        faults = []
+        for fault in self.faults:
+            detail = self.details.get(fault.document, Detail())
+            number = None if detail.id is None else json.loads(detail.id)
+            faults.append({**dict(zip(("document", "byte", "path", "kind"), fault)), **detail._asdict(), "id": number})
         names = "name", "documents", "faulty", "kinds", "faults", "rest", "error", "metadata", "expected"
-        return {name: getattr(self, name) for name in names} | {"faults": [self._fault_as_json(it) for it in self.faults]}
+        return {name: getattr(self, name) for name in names} | {"faults": faults}
 
 
 class Noting:

@@ -1,27 +1,30 @@
-"""Takes what is good out of a damaged dump, which is read once, in memory that does not grow with it."""
+"""Takes what is good out of a damaged dump, or the dumps of a directory, each read once, in memory that does not grow with it."""
 
 from __future__ import annotations
 
+import json
 import os
 from collections import deque
 from contextlib import ExitStack, nullcontext
 from typing import Callable, ContextManager, Generator, Iterator, NamedTuple, Union
 
-from .._dumps.checking import all_faults, checking
-from .._dumps.outputs import Output, refuse_names
+from .._arguments import File, name_of
+from .._dumps.outputs import NewOutput, Output, is_same, refuse_names
+from .._dumps.runs import all_faults, checking
 from .._dumps.sources import Source
-from .._errors import ArgumentError, DumpError
+from .._errors import ArgumentError, BsonfindError, DumpError, FileError, why
 from .._faults import Fault
-from .._names import File, name_of
-from .._run.processes import Dump, Group, Run, processors
-from .._run.wide import wide_program
-from .beginnings import Beginnings
-from .window import Window
+from .._run.processes import Dump, Group, Run, processors, wide_program
+from .backups import Dump as Found, dumps_below
+from .beginnings import Beginnings, Window
+from .metadata import read_metadata, stem_of_file
 
 # The bytes that are checked by one run, at first and after damage, and at most; and the documents at most.
 _FIRST, _MOST, _MOST_DOCUMENTS = 1 << 16, 1 << 22, 100_000
 # This many runs check at once at most.
 _MOST_AHEAD = 4
+# The endings of the files that are written of a dump of a directory, and of those that are not whole yet.
+_GOOD, _BAD, _METADATA, _PART = ".bson", ".bad", ".metadata.json", ".part"
 # What takes documents, some after the others.
 Take = Callable[[Union[bytes, memoryview]], object]
 
@@ -209,3 +212,69 @@ class _Batch(NamedTuple):
     ends: list[int]
     data: bytes
     run: Run
+
+
+class SalvagedDirectory(NamedTuple):
+    """What was salvaged of each dump, by its name, and what could not be."""
+
+    files: dict[str, Salvaged]
+    problems: list[str]
+
+    @property
+    def is_good(self) -> bool:
+        """Whether no dump has a fault."""
+        return all(it.is_good for it in self.files.values())
+
+
+def salvage_directory(
+    directory: str, out: str, program: str, say: Callable[[str], None], progress: Callable[[Source], ContextManager[object]]
+) -> SalvagedDirectory:
+    """Copies the good documents of each dump below a directory, and its metadata, to the same name below another one; others to `.bad`."""
+    if not os.path.isdir(directory):
+        raise ArgumentError(f"{directory} is no directory: give --good and --bad for a dump")
+    if not out or is_same(directory, out) or os.path.realpath(out).startswith(os.path.realpath(directory) + os.sep):
+        raise ArgumentError("the directory of --out is another one, and not below that of the dumps")
+    wide_program(program)
+    done = SalvagedDirectory({}, [])
+    for dump in list(dumps_below(directory)):
+        try:
+            if dump.error:
+                done.problems.append(f"{dump.name}: {dump.error}")
+                continue
+            name = os.path.join(out, os.path.relpath(stem_of_file(dump.name), directory))
+            done.files[dump.name] = _salvage_one(dump, name, program, say, progress)
+        except FileError as error:
+            done.problems.append(str(error))
+        except (BsonfindError, OSError) as error:
+            done.problems.append(f"{dump.name}: {why(error)}")
+    return done
+
+
+def _salvage_one(
+    dump: Found, name: str, program: str, say: Callable[[str], None], progress: Callable[[Source], ContextManager[object]]
+) -> Salvaged:
+    def say_of(text: str) -> None:
+        say(f"{dump.name}: {text}")
+
+    with ExitStack() as files:
+        source = files.enter_context(Source(dump.name))
+        files.enter_context(progress(source))
+        source.refuse_archive()
+        try:
+            os.makedirs(os.path.dirname(name), exist_ok=True)
+        except OSError as error:
+            raise FileError(error.errno, error.strerror, os.path.dirname(name)) from None
+        metadata, _ = read_metadata(dump.name)
+        endings = (_GOOD, _BAD) if metadata is None else (_GOOD, _BAD, _METADATA)
+        outputs = [files.enter_context(NewOutput(name + ending, name + ending + _PART, source.mode)) for ending in endings]
+        good, bad, *about = outputs
+        for output in about:
+            output.write(json.dumps(metadata, ensure_ascii=False).encode())
+        done = Salvaging(source.pieces(), program).copy(good.write, bad.write, say_of)
+        for output in outputs:
+            if output is not bad or done.bad:
+                output.complete()
+                output.put_in_place()
+        told = f", {done.bad} to {name}{_BAD}, {done.bytes_left_out} bytes left out" if not done.is_good else ""
+        say_of(f"{done.good} documents to {name}{_GOOD}{told}")
+    return done

@@ -48,7 +48,6 @@ class Field:
             yield ".*", self.others
 
     def all(self) -> Iterator[Field]:
-        """It, and all below it."""
         yield self
         for _, field in self.below():
             yield from field.all()
@@ -61,7 +60,6 @@ class Field:
         return cell.waiting.append, self, _CODES.get(kind, max(SIZES[kind], _OTHER))
 
     def merge(self, other: Field) -> None:
-        """Adds what is known of other values."""
         for kind, cell in other.cells.items():
             if kind in self.cells:
                 self.cells[kind].merge(cell)
@@ -78,8 +76,13 @@ class Field:
             self.elements = self.elements or Field()
             self.elements.merge(other.elements)
 
-    def __reduce__(self) -> tuple[Any, ...]:
-        return _field_of, (self.cells, self.names, self.others, self.elements)
+    def __getstate__(self) -> tuple[Any, ...]:
+        """What another process gets, which finds out by itself where values go."""
+        return self.cells, self.names, self.others, self.elements
+
+    def __setstate__(self, state: tuple[Any, ...]) -> None:
+        self.slots = {}
+        self.cells, self.names, self.others, self.elements = state
 
     def fold(self) -> Field:
         """Makes one field of those of all names, and gives it."""
@@ -89,13 +92,6 @@ class Field:
         self.names.clear()
         self.slots.clear()
         return self.others
-
-
-def _field_of(cells: dict[int, Cell], names: dict[bytes, Field], others: Field | None, elements: Field | None) -> Field:
-    """A field of which this is known."""
-    field = Field()
-    field.cells, field.names, field.others, field.elements = cells, names, others, elements
-    return field
 
 
 # What takes a value, its field, and how many bytes the values of the type have, or a number below zero.
@@ -126,15 +122,10 @@ class Schema:
         # The same dump has the same sample.
         self._random = random.Random(0).random
 
-    @property
-    def is_sample(self) -> bool:
-        """Whether documents are chosen, which are looked at in the end."""
-        return self._size is not None
-
     def take(self, documents: Sequence[bytes]) -> None:
         """Looks at some documents, or chooses among them."""
         if self._size is None:
-            self.add(looked_at(documents))
+            self.add(Looked(documents))
             return
         for number, document in enumerate(documents, self.documents + 1):
             if len(self._sample) < self._size:
@@ -144,7 +135,6 @@ class Schema:
         self.documents += len(documents)
 
     def add(self, looked: Looked) -> None:
-        """Adds what was found in documents, which follow the others."""
         self._merge(looked)
         self.documents += looked.documents
 
@@ -159,38 +149,26 @@ class Schema:
     def rows(self) -> Iterator[Row]:
         """A row of each path, in the order in which they were found, those below a path after it."""
         sample, self._sample = self._sample, []
-        self._merge(looked_at(sample))
+        self._merge(Looked(sample))
         for rest, field in self._root.below():
             yield from _rows(rest[1:], field, None if field is self._root.others else self.looked_at)
 
 
-def looked_at(documents: Sequence[bytes]) -> Looked:
-    """What is found in some documents without a fault."""
-    looked = Looked()
-    looked.look(documents)
-    return looked
-
-
 def refuse_paths(paths: int) -> None:
-    """Refuses more paths than are kept."""
     if paths > MOST_PATHS:
         raise TooManyError(f"the documents have more than {MOST_PATHS:,} paths: --sample N looks at fewer of them")
 
 
 class Looked:
-    """What was found in some documents: their fields, how many paths these have, and how many documents there were."""
+    """What was found in some documents without a fault: their fields, how many paths these have, and how many documents there were."""
 
-    def __init__(self) -> None:
-        self.root, self.paths, self.documents = Field(), 0, 0
-
-    def look(self, documents: Sequence[bytes]) -> None:
-        """Looks at all values of some documents once."""
+    def __init__(self, documents: Sequence[bytes]) -> None:
+        self.root, self.paths, self.documents = Field(), 0, len(documents)
         for document in documents:
             self._fields(self.root, document, 4)
         for field in self.root.all():
             for cell in field.cells.values():
                 cell.look()
-        self.documents += len(documents)
 
     def _fields(self, field: Field, data: bytes, at: int) -> int:
         """Takes the fields of a document, whose first one begins at a byte, and gives where it ends."""

@@ -29,10 +29,7 @@ _length_at = struct.Struct("<i").unpack_from
 
 
 class Wanted(NamedTuple):
-    """What is looked for: a text or a pattern, and for a text with the form of an id or a UUID the bytes of that.
-
-    Old UUIDs are those of the older subtype. `with_values` is false where fields are counted alone.
-    """
+    """A text or a pattern, and of a text with the form of an id or a UUID the bytes of that; old UUIDs are those of the older subtype."""
 
     text: str
     is_pattern: bool = False
@@ -41,6 +38,7 @@ class Wanted(NamedTuple):
     uuid: bytes | None = None
     old_uuids: tuple[bytes, ...] = ()
     seconds: float = 0.0
+    # False where fields are counted alone.
     with_values: bool = True
 
 
@@ -56,10 +54,7 @@ class Match(NamedTuple):
 
 
 class Found(NamedTuple):
-    """What was found in some documents: how many have it, in how many fields, and each of them unless they are counted alone.
-
-    The last ones have the paths on which the pattern took too long.
-    """
+    """In how many documents and fields something was found, each of them unless they are counted, and the paths that took too long."""
 
     documents: int
     fields: int
@@ -92,7 +87,6 @@ class Search:
         self._slow: list[tuple[str, bytes]] = []
 
     def run(self, data: bytes) -> Found:
-        """What is found in documents."""
         documents = fields = 0
         matches: list[Match] = []
         slow: list[Match] = []
@@ -243,7 +237,6 @@ def literal_in(pattern: re.Pattern[str]) -> bytes:
 
 
 def _documents(data: bytes, at: int, end: int) -> Iterator[tuple[int, int]]:
-    """Where documents begin and end."""
     while at < end:
         (length,) = _length_at(data, at)
         yield at, at + length

@@ -34,15 +34,18 @@ def split(archive: Archive, read: Read, group: Group) -> Iterator[End | None]:
                         raise DumpError(f"more than {MOST_AT_ONCE} collections at once: unpack it")
                     reading = readings[block.namespace] = _Reading(block.namespace, read, pool)
                 if isinstance(block, Documents):
-                    reading.write(block.data)
+                    try:
+                        reading.pipe.write(block.data)
+                    except BrokenPipeError:
+                        reading.future.result()  # It has ended, and reads no more; an error that ended it is raised.
                     yield None
                 else:
-                    reading.close()
-                    readings.pop(block.namespace).wait()
+                    close(reading.pipe)
+                    readings.pop(block.namespace).future.result()
                     yield block
             for reading in readings.values():
-                reading.close()
-                reading.wait()
+                close(reading.pipe)
+                reading.future.result()
         except (BsonfindError, OSError) as error:
             wrong = error
         except (GeneratorExit, KeyboardInterrupt, SystemExit):
@@ -50,7 +53,7 @@ def split(archive: Archive, read: Read, group: Group) -> Iterator[End | None]:
             raise
         finally:
             for reading in readings.values():
-                reading.close()
+                close(reading.pipe)
     # After a refusal that is no fault of the archive, ends were not looked for.
     for namespace in archive.unended() if wrong is None or is_finding(wrong) else ():
         yield End(namespace, "no end")
@@ -63,23 +66,8 @@ class _Reading:
 
     def __init__(self, namespace: Namespace, read: Read, pool: ThreadPoolExecutor) -> None:
         output, pipe = os.pipe()
-        self._pipe = open(pipe, "wb")
-        self._future: Future[None] = pool.submit(_read_all, namespace, read, output)
-
-    def write(self, data: memoryview) -> None:
-        """Writes bytes to the pipe. A thread that has ended reads no more; an error that ended it is raised."""
-        try:
-            self._pipe.write(data)
-        except BrokenPipeError:
-            self._future.result()
-
-    def close(self) -> None:
-        """Writes no more."""
-        close(self._pipe)
-
-    def wait(self) -> None:
-        """Waits until all is read."""
-        self._future.result()
+        self.pipe = open(pipe, "wb")
+        self.future: Future[None] = pool.submit(_read_all, namespace, read, output)
 
 
 def _read_all(namespace: Namespace, read: Read, pipe: int) -> None:

@@ -5,8 +5,8 @@ from __future__ import annotations
 from decimal import Decimal
 from typing import Callable, Iterable, Iterator, Sequence, TypeVar
 
-from .._dumps.numbers import DECIMAL128, Number, is_finite, number_of
-from .._dumps.printing import texts_of_values
+from .._dumps.paths import DECIMAL128, Number, is_finite, number_of
+from .._dumps.runs import texts_of_values
 
 T = TypeVar("T")
 # The rank of each type where MongoDB sorts values of several. Numbers of all types have one, and so have texts and symbols.
@@ -38,7 +38,7 @@ def texts(values: Sequence[bytes], program: str) -> Iterator[str]:
     """The texts of values as `dump` prints them, but numbers without their types."""
     for some in batches(values, len):
         others = [it for it in some if number_of(it) is None]
-        printed = iter(texts_of_values(others, program) if others else ())
+        printed = iter(texts_of_values(others, program))
         for value in some:
             number = number_of(value)
             yield next(printed) if number is None else text_of_number(number)

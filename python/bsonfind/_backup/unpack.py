@@ -7,14 +7,14 @@ from contextlib import ExitStack, nullcontext, suppress
 from dataclasses import dataclass
 from typing import Callable, ContextManager, Iterator, NamedTuple, Sequence
 
-from .._dumps.archive import Archive, Documents, End, Listed, why_none
+from .._arguments import File, name_of
+from .._dumps.archive import Archive, Documents, End, why_none
 from .._dumps.archive_frames import Namespace
 from .._dumps.files import member_of
 from .._dumps.gzip import UnpackError
 from .._dumps.outputs import NewOutput, refuse_there
 from .._dumps.sources import Source
 from .._errors import ArgumentError, DumpError, FileError, why
-from .._names import File, name_of
 from .backups import stem_of
 
 # The endings of a file, and those that it has while it is not whole. The longest name by mongodump has space for them.
@@ -99,9 +99,7 @@ def unpack(
 class _Unpacking:
     """An archive on its way to files."""
 
-    def __init__(
-        self, archive: Archive, directory: str, only: list[Namespace] | None, mode: int | None, stack: ExitStack
-    ) -> None:
+    def __init__(self, archive: Archive, directory: str, only: list[Namespace] | None, mode: int | None, stack: ExitStack) -> None:
         self._archive, self._directory, self._mode, self._stack = archive, directory, mode, stack
         # The collections that are written, None if all are; the documents of a time series are in another one.
         self._only: set[Namespace] | None = None
@@ -113,9 +111,8 @@ class _Unpacking:
             series = [it.buckets for it in archive.listed if it.namespace in only and it.kind == "timeseries"]
             self._only = {*only, *series}
         self._collections: dict[Namespace, Collection] = {}
-        # The files of documents and of metadata, and those of them that are whole.
-        self._files: dict[Namespace, NewOutput] = {}
-        self._metadata: dict[Namespace, NewOutput] = {}
+        # The files of documents and of metadata, by their endings, and those of them that are whole.
+        self._files: dict[tuple[Namespace, tuple[str, str]], NewOutput] = {}
         self._whole: list[tuple[NewOutput, Collection]] = []
         self._error: str | None = None
 
@@ -125,7 +122,10 @@ class _Unpacking:
         for listed in wanted:
             refuse_there(*(self._name(listed.namespace) + ending for ending in (*_DOCUMENTS, *_METADATA)))
         for listed in wanted:
-            self._write_metadata(listed)
+            self._collection(listed.namespace)
+            if listed.metadata:
+                self._file(listed.namespace, _METADATA).write(listed.metadata.encode())
+                self._complete(listed.namespace, _METADATA)
         for block in self._blocks():
             if isinstance(block, Documents):
                 self._file(block.namespace).write(block.data)
@@ -133,11 +133,11 @@ class _Unpacking:
                 collection.documents += block.ended
                 collection.size += len(block.data)
             elif self._is_wanted(block.namespace):
-                self._end(block)
+                self._complete(block.namespace, error=block.error)
         for namespace in filter(self._is_wanted, self._archive.unended()):
             self._collection(namespace).error = "no end"
-            if namespace in self._files:
-                self._files[namespace].complete()
+            if (namespace, _DOCUMENTS) in self._files:
+                self._file(namespace).complete()
 
     def _is_wanted(self, namespace: Namespace) -> bool:
         return self._only is None or namespace in self._only
@@ -149,38 +149,26 @@ class _Unpacking:
         except (UnpackError, OSError) as error:
             self._error = why(error)
 
-    def _write_metadata(self, listed: Listed) -> None:
-        collection = self._collection(listed.namespace)
-        if listed.metadata:
-            self._metadata[listed.namespace] = file = self._new(listed.namespace, _METADATA)
-            file.write(listed.metadata.encode())
-            file.complete()
-            self._whole.append((file, collection))
-
-    def _end(self, end: End) -> None:
-        file = self._file(end.namespace)
+    def _complete(self, namespace: Namespace, endings: tuple[str, str] = _DOCUMENTS, error: str | None = None) -> None:
+        """Ends a file, which is whole unless there is an error."""
+        file, collection = self._file(namespace, endings), self._collection(namespace)
         file.complete()
-        if end.error:
-            self._collection(end.namespace).error = end.error
+        if error:
+            collection.error = error
         else:
-            self._whole.append((file, self._collection(end.namespace)))
+            self._whole.append((file, collection))
 
     def _collection(self, namespace: Namespace) -> Collection:
         return self._collections.setdefault(namespace, Collection(str(namespace)))
-
-    def _file(self, namespace: Namespace) -> NewOutput:
-        """The file of the documents of a collection."""
-        if namespace not in self._files:
-            self._files[namespace] = self._new(namespace, _DOCUMENTS)
-            self._collection(namespace)
-        return self._files[namespace]
 
     def _name(self, namespace: Namespace) -> str:
         """The name of the files of a collection, without an ending."""
         return os.path.join(self._directory, stem_of(namespace))
 
-    def _new(self, namespace: Namespace, endings: tuple[str, str]) -> NewOutput:
-        """A file for a collection, and the directories above it."""
+    def _file(self, namespace: Namespace, endings: tuple[str, str] = _DOCUMENTS) -> NewOutput:
+        """A file of a collection, which is made if it is not there, with the directories above it."""
+        if (namespace, endings) in self._files:
+            return self._files[namespace, endings]
         name = self._name(namespace)
         missing, above = [], os.path.dirname(name)
         while above and not os.path.exists(above):
@@ -192,13 +180,13 @@ class _Unpacking:
             except OSError as error:
                 raise FileError(error.errno, error.strerror, directory) from None
             self._stack.callback(_remove_empty, directory)
-        whole, part = (name + ending for ending in endings)
-        file = NewOutput(whole, part, self._mode)
+        file = NewOutput(name + endings[0], name + endings[1], self._mode)
         self._stack.enter_context(file)
+        self._files[namespace, endings] = file
+        self._collection(namespace)
         return file
 
     def lines(self) -> Iterator[str]:
-        """What is printed of the collections."""
         for it in self._collections.values():
             error = f"{it.error}: " if it.error else ""
             if it.path:
@@ -207,20 +195,19 @@ class _Unpacking:
                 yield f"{it.name}: {error}no documents"
 
     def name_all(self) -> Unpacked:
-        """Gives all files that are whole their names, and leaves the others: from here on none is deleted.
-
-        A name that something else has by now is noted, and the file keeps the one that it has.
-        """
-        for file in (*self._files.values(), *self._metadata.values()):
+        """Gives all files that are whole their names, unless something else has them by now; from here on none is deleted."""
+        for file in self._files.values():
             file.keep()
         for file, collection in self._whole:
             try:
                 file.put_in_place()
             except FileError as error:
                 collection.error = collection.error or str(error)
-        for namespace, collection in self._collections.items():
-            collection.path = self._files[namespace].path if namespace in self._files else None
-            collection.metadata = self._metadata[namespace].path if namespace in self._metadata else None
+        for (namespace, endings), file in self._files.items():
+            if endings == _DOCUMENTS:
+                self._collections[namespace].path = file.path
+            else:
+                self._collections[namespace].metadata = file.path
         return Unpacked(list(self._collections.values()), self._error)
 
 

@@ -71,16 +71,12 @@ class Workers:
         return worker
 
     def close(self) -> None:
-        """Ends all of them."""
         for worker in self._all:
             worker.close()
 
 
 class Spread(Generic[T], AbstractContextManager["Spread[T]"]):
-    """Work on documents, some at once, by a process for each processor. What it comes to is taken in the order of the documents.
-
-    The first documents wait for others: if there are none, no process is started.
-    """
+    """Work on documents by a process for each processor, taken in their order. The first wait for others: without them none starts."""
 
     def __init__(self, work: Callable[[List[bytes]], T], take: Callable[[T], None]) -> None:
         self._work, self._take, self._group, jobs = work, take, Group(), processors()
@@ -100,7 +96,6 @@ class Spread(Generic[T], AbstractContextManager["Spread[T]"]):
             self._take(self._ahead.popleft().result())
 
     def take_rest(self) -> None:
-        """Takes what is left."""
         if self._first is not None:
             self._take(self._work(self._first))
         while self._ahead:

@@ -6,8 +6,8 @@ import argparse
 import os
 import re
 
-from . import layouts
 from .console import NAME, print_text
+from .program import CHOICES, LAYOUT, refusal
 
 # As `typing.TYPE_CHECKING`, without `typing`, which takes long to import.
 TYPE_CHECKING = False
@@ -148,7 +148,7 @@ _FILES = _argument("files", "FILE", "a dump, one by mongodump --gzip, or a direc
 _ROWS = _flag("print a line of JSON for each row", "--json")
 _AS_BSON = _flag("print the documents as they are, in BSON", "--bson")
 # How `dump` and `find` print documents.
-_LAYOUT = tuple(((name,), {"choices": layouts.CHOICES[name], "help": help}) for name, help in (
+_LAYOUT = tuple(((name,), {"choices": CHOICES[name], "help": help}) for name, help in (
     ("--type", "csv: a header, and a row of these --fields for each document"), ("--jsonFormat", "relaxed: numbers and dates as mongoexport"),
 )) + (
     _of_text("--fields", "A,B.C", "print these fields alone, and _id"),
@@ -257,8 +257,8 @@ def options_of(words: argparse.Namespace) -> list[str]:
     """The options of `dump` or `find` that say what is printed, as the program takes them, unless some do not go together."""
     from .._ask.requests import option
 
-    values = {name: getattr(words, name[2:], None) for name in ("--batch", "--bson", "--count", *layouts.NAMES)}
+    values = {name: getattr(words, name[2:], None) for name in ("--batch", "--bson", "--count", *LAYOUT)}
     given = {name: value for name, value in values.items() if value is not None and value is not False}
-    if text := layouts.refusal(given):
+    if text := refusal(given):
         raise Refused(text)
     return [word for name, value in given.items() if name != "--batch" for word in ([name] if value is True else option(name, value))]

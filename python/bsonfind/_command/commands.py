@@ -5,18 +5,12 @@ from __future__ import annotations
 import argparse
 import os
 import stat
+from collections.abc import Callable, Sequence
 from contextlib import suppress
 
 from .._errors import DumpError, is_finding, why
 from .arguments import FAILED, FAULTY, GOOD, Refused, options_of
 from .console import Console, Progress, visible
-
-# As `typing.TYPE_CHECKING`, without `typing`, which takes long to import.
-TYPE_CHECKING = False
-if TYPE_CHECKING:
-    from typing import Callable, Sequence
-
-    from .._backup.reports import Audit, Report
 
 # The commands with the statuses of the program, in which 1 is all that failed.
 AS_THE_PROGRAM = ("check", "dump", "pack", "find", "serve")
@@ -49,7 +43,7 @@ def _refuse_directory(command: str, name: str, front: str = "") -> None:
 
 
 def _run_check(words: argparse.Namespace) -> int:
-    from .checks import check_file
+    from .dumping import check_file
 
     _refuse_twice(words.files)
     return _run_each(words, Console(), lambda name, console, front: check_file(name, words.program, console, front))
@@ -69,7 +63,7 @@ def _run_dump(words: argparse.Namespace) -> int:
 
 def _run_pack(words: argparse.Namespace) -> int:
     """Becomes the program, whose standard input is the text; only an error comes back."""
-    from .._run.wide import wide_program
+    from .._run.processes import wide_program
     from .program import PACK, execute, take_text
 
     wide = wide_program(words.program)
@@ -122,21 +116,19 @@ def _run_find(words: argparse.Namespace) -> int:
 
 
 def _run_serve(words: argparse.Namespace) -> int:
-    """Becomes the program, which reads commands from standard input; only an error comes back.
-
-    What is packed, or can be read only once, is first written to a file without a name.
-    """
+    """Becomes the program, over a file without a name if the dump can be read only once; only an error comes back."""
     from .._dumps.originals import Original
     from .._dumps.sources import Source
-    from .._run.wide import wide_program
+    from .._run.processes import wide_program
     from .program import BY_VALUE, SERVE, execute
 
     if words.file == "-":
         raise Refused("serve reads commands from standard input: the dump is a file")
     wide = wide_program(words.program)
     with Source(words.file, is_named=True) as source:
-        file = source.dump().file or Original.of_pieces(source.pieces()).rewound()
+        file = source.dump().file or Original.of_pieces(source.pieces()).dump.file
         source.check()
+        assert file
         os.set_inheritable(file.fileno(), True)
         execute(wide, [SERVE, f"/dev/fd/{file.fileno()}", *([BY_VALUE] if words.byValue else [])])
     return FAULTY
@@ -145,32 +137,31 @@ def _run_serve(words: argparse.Namespace) -> int:
 def _run_audit(words: argparse.Namespace) -> int:
     from .._backup.audit import audit_dumps
     from .._backup.backups import dumps_of
+    from .._backup.reports import Report
 
     console = Console()
 
     def show(report: Report) -> None:
-        """Prints a good file as soon as it was checked. The others come last, where they are found."""
-        if report.is_good and not (words.json or words.quiet):
-            _print_report(report)
-
-    def _print_report(report: Report) -> None:
         for line in report.lines():
             console.line(f"{report.name}: {line}")
+
+    def show_good(report: Report) -> None:
+        """Prints a good file as soon as it was checked. The others come last, where they are found."""
+        if report.is_good and not (words.json or words.quiet):
+            show(report)
 
     def watch(files: int, size: int) -> Progress:
         return Progress(None if words.json else console, files, size)
 
     dumps = dumps_of(_names_in(words))
-    done: Audit = audit_dumps(dumps, words.expect, words.jobs, words.max_faults, words.program, show, watch)
+    done = audit_dumps(dumps, words.expect, words.jobs, words.max_faults, words.program, show_good, watch)
     if words.json:
         console.line(done.as_json())
     elif not (words.quiet and done.is_good):
         for report in done.reports:
             if not report.is_good:
-                _print_report(report)
-        for line in done.lines():
-            console.line(line)
-        for line in table(done.rows()):
+                show(report)
+        for line in [*done.lines(), *table(done.rows())]:
             console.line(line)
     return FAILED if done.unseen else GOOD if done.is_good else FAULTY
 
@@ -197,8 +188,7 @@ def table(rows: Sequence[tuple[str, int]]) -> list[str]:
 
 
 def _run_salvage(words: argparse.Namespace) -> int:
-    from .._backup.salvage import salvage
-    from .._backup.salvage_directory import salvage_directory
+    from .._backup.salvage import salvage, salvage_directory
 
     console, name = Console(), words.file
     if (words.out is None) == (words.good is None and words.bad is None) or (words.good is None) != (words.bad is None):
@@ -239,8 +229,8 @@ def _run_unpack(words: argparse.Namespace) -> int:
 
 
 def _run_compare(words: argparse.Namespace) -> int:
-    from .._backup.compare import CompareError, NOTHING, compare, pairs_of, rows
-    from .._run.wide import wide_program
+    from .._backup.compare import NOTHING, CompareError, compare, pairs_of, rows
+    from .._run.processes import wide_program
 
     console = Console()
     _refuse_twice([words.first, words.second])
@@ -324,11 +314,11 @@ def _run_ids(words: argparse.Namespace) -> int:
     from contextlib import ExitStack
 
     from .._backup.backups import text_lines
-    from .._backup.ids import Ids, find_ids
+    from .._backup.ids import find_ids, ids_of
     from .._dumps.outputs import Output, refuse_names
 
     console = Console()
-    ids = Ids(text_lines(words.ids), words.ids, words.program)
+    ids = ids_of(text_lines(words.ids), words.ids, words.program)
     with ExitStack() as files:
         output = None
         if words.missing is not None:

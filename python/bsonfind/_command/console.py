@@ -53,13 +53,11 @@ class Console:
         self.on_terminal = sys.stderr is not None and sys.stderr.isatty()
 
     def line(self, text: str) -> None:
-        """Prints a line."""
         with self._lock:
             self._clear()
             print_text(visible(text))
 
     def documents(self, lines: list[bytes]) -> None:
-        """Prints lines as they are."""
         with self._lock:
             self._clear()
             with _writing():

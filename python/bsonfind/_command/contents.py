@@ -89,7 +89,6 @@ class _Rows:
         self._console, self._table = console, Table(console, self._COLUMNS)
 
     def print(self, hits: Hits) -> None:
-        """Prints what was found in some documents."""
         self._table.print([(hits.name, it.id or "", it.path, it.value or "") for it in hits.rows])
 
     def end(self) -> None:
@@ -100,7 +99,6 @@ class _Lines(_Rows):
     """A line of JSON for each field."""
 
     def print(self, hits: Hits) -> None:
-        """Prints the fields."""
         name = json.dumps(hits.name)
         lines = (f'{{"file":{name},"id":{it.id or "null"},"path":{json.dumps(it.path)},"value":{it.value or "null"}}}\n' for it in hits.rows)
         self._console.documents([line.encode() for line in lines])
@@ -116,7 +114,6 @@ class _Counts(_Rows):
         self._counts: dict[str, tuple[int, int]] = {}
 
     def print(self, hits: Hits) -> None:
-        """Counts the fields."""
         documents, fields = self._counts.get(hits.name, (0, 0))
         self._counts[hits.name] = documents + hits.documents, fields + hits.fields
 

@@ -6,17 +6,15 @@ import json
 from decimal import Decimal
 from functools import partial
 from itertools import islice
-from typing import TYPE_CHECKING, Iterable, Iterator, Sequence
+from typing import Iterable, Iterator, Sequence
 
-from .._backup.count import Count, Row, counted
+from .._backup.count import Count, Row
 from .._backup.reading import Reading, Take
-from .._backup.schema import Row as PathRow
-from .._backup.schema import Schema, looked_at
+from .._backup.schema import Looked, Row as PathRow, Schema
 from .._backup.texts import texts
 from .._backup.workers import Spread
-from .._dumps.numbers import Number, is_finite
-from .._dumps.paths import Path
-from .._run.wide import wide_program
+from .._dumps.paths import Number, Path, is_finite
+from .._run.processes import wide_program
 from .arguments import FAILED, FAULTY, GOOD
 from .console import Console, Progress, Table
 
@@ -25,8 +23,6 @@ _OF_SUMS, _MISSING = ("sum", "NaN", "infinite", "other"), "missing"
 # How many rows are printed at once, and after how many seconds the progress is.
 _MOST_ROWS, _PATIENCE = 10_000, 1.0
 Cells = Sequence[str]
-if TYPE_CHECKING:
-    from .._backup.matching import Matching
 
 
 class Counting:
@@ -39,16 +35,18 @@ class Counting:
 
     def count(self, by: Path | None, add: Path | None, query: str | None) -> int:
         """Prints how many documents match, in all or of each value, and gives the status."""
-        count = Count(by, add)
+        count, matching = Count(by, add), None
+        if query is not None:
+            from .._backup.query import Matching
+
+            matching = Matching(query, self._program)
+        most = matching.most if matching else None
         if count.is_by or count.is_adding:
-            with Spread(partial(counted, by, add), count.merge) as spread:
-                status, is_read = self._read_matching(spread.add, query)
+            with Spread(partial(Count, by, add), count.merge) as spread:
+                status, is_read = self._read(lambda some: spread.add(matching.of(some) if matching else some), most)
                 spread.take_rest()
-        elif query is None:
-            status, is_read = self._read(count.take)
         else:
-            matching = self._matching(query)
-            status, is_read = self._read(lambda documents: count.add(matching.count(documents)), matching.most)
+            status, is_read = self._read(lambda some: count.add(matching.count(some) if matching else len(some)), most)
         if is_read:
             names = (*(("value",) if count.is_by else ()), "count", *(_OF_SUMS if count.is_adding else ()))
             self._print(names, self._counts(count.rows(self._program)))
@@ -57,25 +55,14 @@ class Counting:
     def schema(self, sample: int | None) -> int:
         """Prints the fields of documents, and gives the status."""
         fields = Schema(sample)
-        with Spread(looked_at, fields.add) as spread:
-            status, is_read = self._read(fields.take if fields.is_sample else spread.add)
+        with Spread(Looked, fields.add) as spread:
+            status, is_read = self._read(spread.add if sample is None else fields.take)
             spread.take_rest()
         if is_read:
             self._print(("path", "types", "least", "greatest", "example"), self._fields(list(fields.rows())))
             part = "" if fields.looked_at == fields.documents else f"{fields.looked_at} of "
             self._console.note(f"{part}{fields.documents} documents")
         return status
-
-    def _read_matching(self, take: Take, query: str | None) -> tuple[int, bool]:
-        if query is None:
-            return self._read(take)
-        matching = self._matching(query)
-        return self._read(lambda documents: take(matching.of(documents)), matching.most)
-
-    def _matching(self, query: str) -> Matching:
-        from .._backup.matching import Matching
-
-        return Matching(query, self._program)
 
     def _read(self, take: Take, most: int | None = None) -> tuple[int, bool]:
         """Reads the dumps, says what is wrong with them, and gives the status, and whether one was read."""

@@ -1,4 +1,4 @@
-"""The command `dump` over any dumps: what runs of the program print is one output, as of one run over all of them."""
+"""The commands `check` and `dump` over any dumps: what runs of the program print is one output, as of one run over all of them."""
 
 from __future__ import annotations
 
@@ -6,11 +6,10 @@ import subprocess
 import sys
 from typing import Sequence
 
-from .._dumps.printing import Array, finish_dump
+from .._dumps.runs import Array, Checking, finish_dump
 from .._dumps.sources import Source
 from .._errors import DumpError, why
-from .._run.processes import Dump, Run
-from .._run.wide import wide_program
+from .._run.processes import Dump, Run, wide_program
 from .console import Console
 
 
@@ -67,3 +66,21 @@ class Dumping:
         """Prints what comes after the last document, if nothing failed."""
         if self._array:
             console.documents([self._array.closing])
+
+
+def check_file(name: str, program: str, console: Console, front: str = "") -> bool:
+    """Prints the damage of a dump, as `check` does, each line after a text; gives whether there is none."""
+    faulty = 0
+    checking, is_sound = Checking(program), True
+    with Source(name, is_named=not front) as source:
+        try:
+            for fault in checking.faults(source):
+                faulty += 1
+                console.line(f"{front}{fault}")
+        except DumpError as error:
+            if not error.is_finding:
+                raise
+            console.problem(f"{front}{error}")
+            is_sound = False
+    console.note(f"{front}{checking.documents} documents, {faulty} faulty")
+    return is_sound and not faulty

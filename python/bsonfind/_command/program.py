@@ -8,7 +8,6 @@ import stat
 
 from .. import __version__
 from .._run.program import located_wide, says
-from . import layouts
 
 # The signals that Python ignores by itself, and where `bsonkit` notes which ones the shell ignores, before Python begins.
 _IGNORED, _NOTED = (signal.SIGPIPE, signal.SIGXFSZ), "BSONKIT_IGNORED"
@@ -20,11 +19,17 @@ _OTHERS = (b"\x6d\xe2\x99\x81", b"\x1f\x8b")
 _OF_DUMPS, PACK, SERVE = ("check", "dump", "find"), "pack", "serve"
 # The option of `serve`.
 BY_VALUE = "--byValue"
-# The options of `dump` and `find`: each with a text or a number, or with nothing, beside those that say how documents are printed.
-_TEXTS, _NUMBERS, _MOST = ("--query", "--sort", "--index", "--after"), ("--skip", "--limit", "--batch"), 2_147_483_647
-_FLAGS = ("--bson", "--count")
-_WITH_VALUES = (*_TEXTS, *_NUMBERS, *layouts.TEXTS, *layouts.CHOICES)
-_OPTIONS = {"check": (), "dump": layouts.NAMES, "find": (*_WITH_VALUES, *_FLAGS, *layouts.FLAGS), PACK: ()}
+# The options of `dump` and `find` that say how documents are printed, as those of `mongoexport`: with one of some words, and all.
+CHOICES = {"--type": ("json", "csv"), "--jsonFormat": ("canonical", "relaxed")}
+LAYOUT = (*CHOICES, "--fields", "--noId", "--jsonArray", "--pretty", "--noHeaderLine")
+# The options of these with a text or a number, or with nothing, and those of each command.
+_TEXTS, _NUMBERS, _MOST = ("--query", "--sort", "--index", "--after", "--fields"), ("--skip", "--limit", "--batch"), 2_147_483_647
+_FLAGS, _WITH_VALUES = ("--bson", "--count", *LAYOUT[3:]), (*_TEXTS, *_NUMBERS, *CHOICES)
+_OPTIONS = {"check": (), "dump": LAYOUT, "find": (*_WITH_VALUES, *_FLAGS), PACK: ()}
+# Options that do not go with others, as of the program, and what an option needs beside it.
+_CSV = "--type csv"
+_APART = {"--bson": LAYOUT, "--count": ("--bson", "--batch", *LAYOUT), _CSV: ("--jsonFormat", "--noId", "--jsonArray", "--pretty")}
+_NEEDED = {_CSV: "--fields", "--noHeaderLine": _CSV, "--noId": "--fields"}
 
 
 def become_program(words: list[str]) -> None:
@@ -81,7 +86,7 @@ def _split(words: list[str]) -> tuple[list[str], list[list[str]]]:
         del words[: len(taken)]
         if len(taken) == 2 and not taken[1].startswith("-"):
             equals, value = "=", taken[1]
-        if taken[0] in (*_FLAGS, *layouts.FLAGS) or equals and _is_option(name, value):
+        if taken[0] in _FLAGS or equals and _is_option(name, value):
             options.append(taken)
         else:
             files.extend(taken)
@@ -91,26 +96,33 @@ def _split(words: list[str]) -> tuple[list[str], list[list[str]]]:
 def _are_of(command: str, options: list[list[str]]) -> bool:
     """Whether a command has these options, each once, and they go together."""
     given = {name: value for name, _, value in ("=".join(it).partition("=") for it in options)}
-    return len(given) == len(options) and {*given} <= {*_OPTIONS[command]} and layouts.refusal(given) is None
+    return len(given) == len(options) and {*given} <= {*_OPTIONS[command]} and refusal(given) is None
+
+
+def refusal(given: dict[str, str]) -> str | None:
+    """Why options of `dump` or `find`, each with its value, do not go together; None if they do."""
+    names = {*given, f"--type {given.get('--type')}"}
+    for name, others in _APART.items():
+        for other in others:
+            if {name, other} <= names:
+                return f"{name} does not go with {other}"
+    return next((f"{name} needs {needed}" for name, needed in _NEEDED.items() if name in names and needed not in names), None)
 
 
 def _is_option(name: str, value: str) -> bool:
     """Whether it is an option with a value that the program takes for one: else the command says what is wrong with it."""
-    if name in layouts.CHOICES:
-        return value in layouts.CHOICES[name]
+    if name in CHOICES:
+        return value in CHOICES[name]
     if name in _NUMBERS:
         return value.isascii() and value.isdigit() and len(value) < 100 and int(value) <= _MOST
     try:
-        return name in (*_TEXTS, *layouts.TEXTS) and os.fsencode(value).decode() is not None
+        return name in _TEXTS and os.fsencode(value).decode() is not None
     except UnicodeDecodeError:
         return False
 
 
 def execute(program: str, words: list[str]) -> None:
-    """Becomes a program, with the signals as the shell gave them; an error if it cannot be started.
-
-    Python ignores two, which is undone unless the shell ignores them too, and an exec undoes all handlers.
-    """
+    """Becomes a program, with the signals as the shell gave them: those that Python ignores, and all handlers, are undone."""
     ignored = _ignored_by_shell()
     for number in _IGNORED:
         if not ignored >> (number - 1) & 1:

@@ -11,19 +11,14 @@ import threading
 from .._errors import BsonfindError, CommandError
 from .arguments import FAILED, FAULTY, Refused, parser
 from .commands import AS_THE_PROGRAM, run
-from .console import CannotWrite, NAME, need_output
-
-# As `typing.TYPE_CHECKING`, without `typing`, which takes long to import.
-TYPE_CHECKING = False
-if TYPE_CHECKING:
-    from typing import NoReturn, Sequence
+from .console import NAME, CannotWrite, need_output
 
 _INTERRUPTED = 130
 # The signals that end a command, its runs and its files.
 _ENDING = (signal.SIGTERM, signal.SIGHUP)
 
 
-def run_command(words: Sequence[str], name: str) -> int:
+def run_command(words: list[str], name: str) -> int:
     """Runs a command, and gives the status. What failed is 1 as of the program, and 2 of a command that has findings."""
     failed = FAILED
     try:
@@ -59,7 +54,7 @@ def _prepare_streams() -> None:
     if threading.current_thread() is threading.main_thread():
         for ending in _ENDING:
             if signal.getsignal(ending) is not signal.SIG_IGN:
-                signal.signal(ending, _terminate)
+                signal.signal(ending, lambda number, _: sys.exit(128 + number))
     for number in range(3):
         try:
             os.fstat(number)
@@ -70,10 +65,6 @@ def _prepare_streams() -> None:
         sys.stdout.reconfigure(encoding="utf-8", errors="surrogateescape")
     if isinstance(sys.stderr, io.TextIOWrapper):
         sys.stderr.reconfigure(encoding="utf-8", errors="surrogateescape")
-
-
-def _terminate(number: int, _: object) -> NoReturn:
-    sys.exit(128 + number)
 
 
 def _flush() -> None:

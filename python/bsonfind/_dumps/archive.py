@@ -34,10 +34,6 @@ class Listed(NamedTuple):
         """Where the documents are of a time series."""
         return Namespace(self.namespace.database, f"system.buckets.{self.namespace.collection}")
 
-    def is_among(self, namespaces: set[Namespace]) -> bool:
-        """Whether its documents are among those of these collections; a view has none."""
-        return self.kind == "view" or self.namespace in namespaces or self.kind == "timeseries" and self.buckets in namespaces
-
 
 class Documents(NamedTuple):
     """The next bytes of the documents of a collection, and how many documents end in them."""
@@ -55,10 +51,7 @@ class End(NamedTuple):
 
 
 class Archive:
-    """An archive of which the list is read; then its blocks are, once.
-
-    What does not fit is an `UnpackError` with the byte at which it is. The bytes of an archive by `--gzip` count as unpacked.
-    """
+    """An archive of which the list is read; then its blocks are, once. What does not fit is an `UnpackError` with the byte, as unpacked."""
 
     def __init__(self, pieces: Iterator[bytes], with_crc: bool = True) -> None:
         """Reads the list. Whether the pieces are those of a file of gzip is known by the first of them."""
@@ -70,13 +63,10 @@ class Archive:
         version = fields_of(self._document(), start, _HEADER)["version"]
         if version != _VERSION:
             raise bad(start, f"version {version} of archives is not known")
-        self.listed: list[Listed] = []
-        self._read_list()
         # The collections that were begun, each with its CRC, and those of which the end was read.
         self._open: dict[Namespace, Crc64 | None] = {}
         self._ended: set[Namespace] = set()
-
-    def _read_list(self) -> None:
+        self.listed: list[Listed] = []
         known: set[Namespace] = set()
         start = self._reader.offset
         while (data := self._reader.document()) is not None:
@@ -106,36 +96,30 @@ class Archive:
             is_wanted = only is None or namespace in only
             if namespace not in self._open:
                 self._open[namespace] = Crc64() if self._with_crc and is_wanted else None
+            found = self._open[namespace]
             if crc is None:
-                yield from self._documents(namespace, is_wanted)
-            else:
-                yield self._end(namespace, crc)
+                for data, ended in self._reader.documents():
+                    if found:
+                        found.add(data)
+                    if is_wanted:
+                        yield Documents(namespace, data, ended)
+                continue
+            start = self._reader.offset
+            if self._reader.document() is not None:
+                raise bad(start, f"a document after the end of {namespace}")
+            del self._open[namespace]
+            self._ended.add(namespace)
+            is_right = found is None or found.is_of(crc & 0xFFFF_FFFF_FFFF_FFFF)
+            yield End(namespace, None if is_right else "wrong CRC-64")
         for namespace in self.unended():
             raise bad(self._reader.offset, f"the archive ends before the end of {namespace}")
-
-    def _documents(self, namespace: Namespace, is_wanted: bool) -> Iterator[Documents]:
-        """The documents of a block."""
-        crc = self._open[namespace]
-        for data, ended in self._reader.documents():
-            if crc:
-                crc.add(data)
-            if is_wanted:
-                yield Documents(namespace, data, ended)
-
-    def _end(self, namespace: Namespace, crc: int) -> End:
-        """The end of a collection, after whose block nothing may be."""
-        start = self._reader.offset
-        if self._reader.document() is not None:
-            raise bad(start, f"a document after the end of {namespace}")
-        found = self._open.pop(namespace)
-        self._ended.add(namespace)
-        is_right = found is None or found.is_of(crc & 0xFFFF_FFFF_FFFF_FFFF)
-        return End(namespace, None if is_right else "wrong CRC-64")
 
     def unended(self) -> list[Namespace]:
         """The collections whose end was not read: those that were begun, and then those that are only listed."""
         seen = {*self._open, *self._ended}
-        return [*self._open, *(it.namespace for it in self.listed if not it.is_among(seen))]
+        # A view has no documents, and those of a time series may be in another collection.
+        left = [it for it in self.listed if it.kind != "view" and it.namespace not in seen]
+        return [*self._open, *(it.namespace for it in left if it.kind != "timeseries" or it.buckets not in seen)]
 
     def _document(self) -> bytes:
         """The document that must be next."""
@@ -155,10 +139,7 @@ def is_archive(head: bytes) -> bool:
 
 
 def documents_of(pieces: Iterator[bytes], namespace: Namespace, listed: list[Listed] | None = None) -> Iterator[bytes]:
-    """The documents of one collection of an archive. It is read up to the end of the collection, which is checked.
-
-    Another list becomes that of the archive.
-    """
+    """The documents of one collection of an archive, which is read up to the end of that. The list of the archive is put into `listed`."""
     archive = Archive(pieces)
     if listed is not None:
         listed[:] = archive.listed

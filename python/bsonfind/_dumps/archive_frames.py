@@ -66,11 +66,9 @@ class Reader:
 
     @property
     def offset(self) -> int:
-        """The byte that is read next."""
         return self._base + self._at
 
     def is_at_end(self) -> bool:
-        """Whether no byte follows."""
         return self._at == len(self._view) and not self._more()
 
     def take(self, size: int, otherwise: str | None = None) -> bytes:

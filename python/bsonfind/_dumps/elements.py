@@ -39,10 +39,7 @@ def end_of(data: bytes, kind: int, at: int) -> int:
 
 
 def value_at(document: bytes, names: Sequence[bytes]) -> bytes | None:
-    """The type and the bytes of the value to which names lead, from document to document; None if they lead to none.
-
-    Of two fields of one name it is the first.
-    """
+    """The type and the bytes of the value to which names lead, from document to document, by the first of a name; None if none does."""
     at, end = 4, len(document) - 1
     found = b""
     for name in names:

@@ -5,8 +5,8 @@ from __future__ import annotations
 import os
 from typing import BinaryIO, NamedTuple
 
+from .._arguments import File, name_of
 from .._errors import DumpError
-from .._names import File, name_of
 from .archive import is_archive
 from .archive_frames import Namespace
 
@@ -17,9 +17,7 @@ INSIDE = "::"
 
 
 class FileState(NamedTuple):
-    """What says whether a file is still the same: its size, the time of its last change, its inode and device, and the time of the
-    last change of these or of its names or rights.
-    """
+    """What says whether a file is still the same: its size, its time, its inode and device, and the time of any change of these."""
 
     size: int
     mtime_ns: int

@@ -41,17 +41,19 @@ class Original:
 
     @property
     def dump(self) -> Dump:
-        """What a run reads."""
-        return Dump(file=self.rewound())
-
-    def rewound(self) -> BinaryIO:
-        """The file, from its beginning on."""
         self._file.seek(0)
-        return self._file
+        return Dump(file=self._file)
 
     def documents(self, numbers: Sequence[int], most: int | None = None) -> list[bytes] | None:
         """The documents of these numbers, as they are; None if they have more bytes than this."""
-        self._find_ends(max(numbers, default=-1))
+        last = max(numbers, default=-1)
+        with self._lock:
+            ends = self._ends
+            start = ends[-1] if ends else 0
+            more = framing.ends_in(framing.read_on(self._file, start, self._state.size))
+            ends.extend(start + end for end in islice(more, max(0, last + 1 - len(ends))))
+            if last >= len(ends):
+                raise DumpError("the file was written to since it was opened")
         places = [(self._ends[number - 1] if number else 0, self._ends[number]) for number in numbers]
         if most is not None and sum(end - start for start, end in places) > most:
             return None
@@ -59,18 +61,7 @@ class Original:
         self._state.refuse_other(self._file)
         return found
 
-    def _find_ends(self, number: int) -> None:
-        """Finds where documents end, up to the one of this number."""
-        with self._lock:
-            ends = self._ends
-            start = ends[-1] if ends else 0
-            more = framing.ends_in(framing.read_on(self._file, start, self._state.size))
-            ends.extend(start + end for end in islice(more, max(0, number + 1 - len(ends))))
-            if number >= len(ends):
-                raise DumpError("the file was written to since it was opened")
-
     def close(self) -> None:
-        """Closes the file."""
         if self._is_owner:
             self._file.close()
 
@@ -94,7 +85,7 @@ def _written(pieces: Iterable[bytes], file: BinaryIO) -> Iterator[bytes]:
                 # A disk that is full takes a part of it.
                 rest = rest[file.write(rest) :]
             except OSError as error:
-                raise no_space() from error
+                raise _no_space() from error
         yield piece
 
 
@@ -104,11 +95,11 @@ def temporary_file() -> BinaryIO:
     try:
         return tempfile.TemporaryFile(buffering=0)  # type: ignore[return-value]
     except OSError as error:
-        raise no_space() from error
+        raise _no_space() from error
     finally:
         signal.pthread_sigmask(signal.SIG_SETMASK, waiting)
 
 
-def no_space() -> ProgramError:
+def _no_space() -> ProgramError:
     """The error of a file without a name that cannot be written."""
     return ProgramError(f"cannot write a copy of the dump in {tempfile.gettempdir()}: TMPDIR names another directory")

@@ -5,7 +5,7 @@ from __future__ import annotations
 import errno
 import os
 import stat
-from contextlib import contextmanager
+from contextlib import AbstractContextManager, contextmanager
 from typing import Iterator
 
 from .._errors import ArgumentError, FileError
@@ -18,15 +18,11 @@ _NO_LINKS = (errno.EPERM, errno.EOPNOTSUPP, errno.ENOSYS)
 def refuse_names(dump: str, good: str, bad: str) -> None:
     """Refuses files that are the dump, or one another, by whatever names."""
     for name in (good, bad):
-        if _is_dump(name, dump):
+        # For `-` the dump is the file that standard input has open.
+        if os.path.exists(name) and os.path.samefile(name, 0) if dump == "-" else is_same(name, file_of(dump)):
             raise ArgumentError(f"{name} is the dump")
     if is_same(good, bad) and not (os.path.exists(good) and stat.S_ISCHR(os.stat(good).st_mode)):
         raise ArgumentError(f"{good} is named twice")
-
-
-def _is_dump(name: str, dump: str) -> bool:
-    """Whether a name is that of the dump, which for `-` is the file that standard input has open."""
-    return os.path.exists(name) and os.path.samefile(name, 0) if dump == "-" else is_same(name, file_of(dump))
 
 
 def is_same(one: str, other: str) -> bool:
@@ -36,7 +32,7 @@ def is_same(one: str, other: str) -> bool:
     return os.path.realpath(one) == os.path.realpath(other)
 
 
-class Output:
+class Output(AbstractContextManager["Output"]):
     """A file that is written under another name beside it, and gets its name at the end. A device or pipe is written as it is."""
 
     def __init__(self, name: str, mode: int | None = None) -> None:
@@ -44,7 +40,10 @@ class Output:
         self.name = name
         self._path = self._beside = os.path.realpath(name)
         with self._naming():
-            refuse_no_file(name)
+            if not name:
+                raise OSError(errno.ENOENT, "an empty name")  # such as of a variable that is not set
+            if os.path.isdir(name) or name.endswith(os.sep):
+                raise OSError(errno.EISDIR, os.strerror(errno.EISDIR))
             there = os.stat(name) if os.path.exists(name) else None
             if there and not stat.S_ISREG(there.st_mode):
                 self._path = self._beside = name
@@ -75,7 +74,6 @@ class Output:
             raise FileError(error.errno, error.strerror, self.name) from None
 
     def write(self, data: bytes | memoryview) -> None:
-        """Writes bytes."""
         with self._naming():
             self._file.write(data)
 
@@ -87,14 +85,10 @@ class Output:
                 os.fsync(self._file.fileno())
 
     def put_in_place(self) -> None:
-        """Gives the file its name."""
         if self._beside != self._path:
             with self._naming():
                 os.replace(self._beside, self._path)
             self._beside = self._path
-
-    def __enter__(self) -> Output:
-        return self
 
     def __exit__(self, kind: object, *_: object) -> None:
         try:
@@ -120,7 +114,6 @@ class NewOutput(Output):
 
     @property
     def path(self) -> str:
-        """The name that the file has now."""
         return self._beside
 
     def complete(self) -> None:
@@ -131,31 +124,20 @@ class NewOutput(Output):
     def put_in_place(self) -> None:
         """Gives the file its name, unless something has it by now."""
         with self._naming():
-            self._rename()
+            try:
+                os.link(self._beside, self.name)
+            except OSError as error:
+                if error.errno not in _NO_LINKS:
+                    raise
+                refuse_there(self.name)
+                os.rename(self._beside, self.name)
+            else:
+                os.unlink(self._beside)
         self._beside = self._path = self.name
-
-    def _rename(self) -> None:
-        try:
-            os.link(self._beside, self.name)
-        except OSError as error:
-            if error.errno not in _NO_LINKS:
-                raise
-            refuse_there(self.name)
-            os.rename(self._beside, self.name)
-        else:
-            os.unlink(self._beside)
 
     def keep(self) -> None:
         """Leaves the file the name that it has, unless it gets its own."""
         self._path = self._beside
-
-
-def refuse_no_file(name: str) -> None:
-    """Refuses what is no name of a file that can be written: an empty one, as of a variable that is not set, and a directory."""
-    if not name:
-        raise FileError(errno.ENOENT, "an empty name", "''")
-    if os.path.isdir(name) or name.endswith(os.sep):
-        raise FileError(errno.EISDIR, os.strerror(errno.EISDIR), name)
 
 
 def _is_standard_output(there: os.stat_result) -> bool:
@@ -170,7 +152,6 @@ def _is_standard_output(there: os.stat_result) -> bool:
 
 
 def refuse_there(*names: str) -> None:
-    """Refuses names of what is there."""
     for name in names:
         if os.path.lexists(name):
             raise FileError(errno.EEXIST, os.strerror(errno.EEXIST), name)

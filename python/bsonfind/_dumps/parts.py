@@ -2,14 +2,12 @@
 
 from __future__ import annotations
 
-from contextlib import contextmanager
 from dataclasses import dataclass, field
 from typing import BinaryIO, Iterator
 
+from .._arguments import File, name_of, name_of_file, whole
 from .._errors import DumpError
 from .._faults import Fault
-from .._names import File, name_of, name_of_file
-from .._numbers import whole
 from .files import FileState
 from .framing import ends_in
 from .sources import Source
@@ -46,19 +44,13 @@ class Part:
     def pieces(self) -> Iterator[bytes]:
         """The bytes of the part, which is an error where the file no longer has them."""
         left = self.length
-        with self.opened() as source:
+        with Source(name_of_file(self.path), is_named=True) as source:
+            self._check_state(source.file)
             for piece in self._bytes_of(source):
                 yield piece
                 left -= len(piece)
             if left:
                 raise PartError(self, f"{left} bytes are missing: the file became shorter")
-
-    @contextmanager
-    def opened(self) -> Iterator[Source]:
-        """The open file, as it was when it was split, before and after it is read."""
-        with Source(name_of_file(self.path), is_named=True) as source:
-            self._check_state(source.file)
-            yield source
             self._check_state(source.file)
 
     def _bytes_of(self, source: Source) -> Iterator[bytes]:

@@ -5,10 +5,11 @@ from __future__ import annotations
 import os
 import select
 import stat
-from typing import BinaryIO, Iterable, Iterator, NamedTuple
+from contextlib import AbstractContextManager, nullcontext
+from typing import Any, BinaryIO, ContextManager, Iterable, Iterator, NamedTuple, Protocol
 
+from .._arguments import File, name_of
 from .._errors import DumpError
-from .._names import File, name_of
 from .._run.processes import Dump
 from . import framing, gzip
 from .archive import Listed, documents_of, is_archive
@@ -25,7 +26,7 @@ class Input(NamedTuple):
     dump: Dump
 
 
-class Source:
+class Source(AbstractContextManager["Source"]):
     """A dump that is open by one descriptor. Its size is that of the file as it is on the disk, None for a pipe or a device.
 
     The name `-` is that of standard input, which is read from where it is. A file can be read as often as is needed, and is
@@ -37,6 +38,7 @@ class Source:
     def __init__(self, path: File, *, is_named: bool = False) -> None:
         self.name, self._is_named = name_of(path), is_named
         self._member = member_of(self.name)
+        self._path = self._member.archive if self._member else self.name
         self.is_packed = self._member is not None or self.name.endswith(".gz")
         self._file: BinaryIO | None = None
         self.size: int | None = None
@@ -49,7 +51,11 @@ class Source:
         self.listed: list[Listed] = []
         # What went wrong with the file where the last inputs end.
         self.errors: list[Exception] = []
-        if self.name == "-" or not self._is_pipe():
+        try:
+            is_pipe = self.name != "-" and stat.S_ISFIFO(os.stat(self._path).st_mode)
+        except OSError:
+            is_pipe = False  # Whoever opens it says what is wrong with it.
+        if not is_pipe:
             status = os.fstat(self.file.fileno())
             if stat.S_ISREG(status.st_mode):
                 self._start = os.lseek(self.file.fileno(), 0, os.SEEK_CUR)
@@ -57,30 +63,20 @@ class Source:
                 self.state, self.mode = FileState.of(self.file), stat.S_IMODE(status.st_mode)
 
     @property
-    def _path(self) -> str:
-        return self._member.archive if self._member else self.name
-
-    def _is_pipe(self) -> bool:
-        try:
-            return stat.S_ISFIFO(os.stat(self._path).st_mode)
-        except OSError:
-            return False  # Whoever opens it says what is wrong with it.
-
-    @property
     def file(self) -> BinaryIO:
-        """The open file."""
+        """The open file. Where it is named an error is as the program says it."""
         if self._file is None:
             try:
                 self._file = _standard_input() if self.name == "-" else open(self._path, "rb", buffering=0)
             except OSError as error:
-                raise DumpError(self._why_not_opened(error) if self._is_named else str(error.strerror)) from error
+                text = str(error.strerror)
+                if self._is_named and self.name == "-":
+                    text = f"cannot read standard input: {text}"
+                elif self._is_named:
+                    is_directory = isinstance(error, IsADirectoryError)
+                    text = f"cannot read {self.name}: it is a directory" if is_directory else f"cannot open {self.name}"
+                raise DumpError(text) from error
         return self._file
-
-    def _why_not_opened(self, error: OSError) -> str:
-        """As the program says it."""
-        if self.name == "-":
-            return f"cannot read standard input: {error.strerror}"
-        return f"cannot read {self.name}: it is a directory" if isinstance(error, IsADirectoryError) else f"cannot open {self.name}"
 
     @property
     def is_plain(self) -> bool:
@@ -93,12 +89,10 @@ class Source:
         return self.size is not None and self._member is None and is_archive(os.pread(self.file.fileno(), HEAD, self._start))
 
     def refuse_archive(self) -> None:
-        """Refuses an archive."""
         if self.is_archive:
             raise DumpError(f"an archive: name one of its collections, {self.name}{INSIDE}db.collection, or unpack it")
 
     def dump(self) -> Dump:
-        """What a run reads."""
         if not self.is_plain:
             return Dump(self.pieces())
         self.refuse_archive()
@@ -115,10 +109,7 @@ class Source:
         return documents_of(raw, self._member.namespace, self.listed) if self._member else gzip.unpacked(raw)
 
     def inputs(self, most: int | None = None) -> Iterator[Input]:
-        """What runs read one after the other, at most this many bytes each; without a number as many as a run can read.
-
-        What goes wrong with the file is raised after the run over the bytes before it.
-        """
+        """What runs read one after the other, at most this many bytes each, or as many as a run can; an error of the file comes last."""
         limit = framing.LARGEST_INPUT if most is None else most
         if self.is_packed or self.size is None or self.size > limit:
             for offset, first, pieces in framing.inputs(up_to_error(self.pieces(), self.errors), limit):
@@ -159,15 +150,31 @@ class Source:
             self.state.refuse_other(self.file)
 
     def close(self) -> None:
-        """Closes the file."""
         if self._file:
             self._file.close()
 
-    def __enter__(self) -> Source:
+    def __exit__(self, *_: object) -> None:
+        self.close()
+
+
+class Watch(Protocol):
+    """What learns which sources are read, and how many files were."""
+
+    def over(self, source: Source) -> ContextManager[None]:
+        return nullcontext()
+
+    def add_file(self) -> None:
+        return None
+
+    def __enter__(self) -> Any:
         return self
 
     def __exit__(self, *_: object) -> None:
-        self.close()
+        return None
+
+
+class Unwatched(Watch):
+    """A watch that prints nothing."""
 
 
 def _standard_input() -> BinaryIO:

@@ -31,16 +31,12 @@ def own_text(told: str) -> str:
     return _LOADER.sub("", told)
 
 
-def error_line(told: str) -> str | None:
-    """What the last line says by which the program reports an error; None if there is none."""
-    return next((line[found.end() :] for line in reversed(told.split("\n")) if (found := _PREFIX.match(line))), None)
-
-
 def error_of(status: int, told: str) -> BsonfindError:
     """The error of a run that did not end well, by its status and what it printed."""
     if status < 0:
         return ProgramError(f"ended by signal {-status}")
-    line = error_line(told)
+    # The last line by which the program reports an error.
+    line = next((line[found.end() :] for line in reversed(told.split("\n")) if (found := _PREFIX.match(line))), None)
     if line is None:
         return ProgramError(told.strip() or (f"ended with status {status}" if status else "no count was printed"))
     fault = read_fault(line)

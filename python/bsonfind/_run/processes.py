@@ -8,17 +8,21 @@ import os
 import re
 import subprocess
 import threading
-from contextlib import ExitStack, contextmanager
-from typing import IO, Any, BinaryIO, Callable, Iterable, Iterator, NamedTuple, Sequence
+from contextlib import AbstractContextManager, ExitStack, contextmanager
+from typing import IO, Any, BinaryIO, Iterable, Iterator, NamedTuple, Sequence
 
 from .._errors import ArgumentError, BsonfindError, OtherProcessError, ProgramError, TimedOutError, why
 from .messages import error_of, own_text
-from .program import located
+from .program import located, wide_beside
 
 # As many bytes as a pipe of Linux holds.
 _BUFFER = 1 << 16
 # How many seconds a source of bytes that stalls is waited for, once no one reads them.
 _PATIENCE = 1.0
+_VERSION = re.compile(r"bsonwide (\S+)\n")
+# The programs of which it is known that they have the version of the package.
+_known: set[str] = set()
+_lock = threading.Lock()
 
 
 class Dump(NamedTuple):
@@ -47,12 +51,11 @@ class Group:
             try:
                 process = subprocess.Popen([located(words[0]), *(it.encode() for it in words[1:])], **streams)
             except (OSError, TypeError, ValueError) as error:
-                raise start_error(words[0], error) from error
+                raise _start_error(words[0], error) from error
             self._processes.add(process)
             return process
 
     def leave(self, process: subprocess.Popen[bytes]) -> None:
-        """Forgets a program that was waited for."""
         with self._lock:
             self._processes.discard(process)
 
@@ -67,20 +70,22 @@ class Group:
     @contextmanager
     def within(self, timeout: float | None) -> Iterator[None]:
         """Ends the group where what is done meanwhile takes longer than this many seconds."""
-        timer = None if timeout is None else self._timer_of(timeout)
+        timer = self._timer_of(timeout)
         try:
             yield
         finally:
             if timer:
                 timer.cancel()
 
-    def _timer_of(self, timeout: float) -> threading.Timer:
+    def _timer_of(self, timeout: float | None) -> threading.Timer | None:
+        if timeout is None:
+            return None
         timer = threading.Timer(timeout, self.end, [TimedOutError(f"no answer within {timeout:g} seconds")])
         timer.daemon = True
         timer.start()
         return timer
 
-    def end_after(self, timeout: float) -> None:
+    def end_after(self, timeout: float | None) -> None:
         """Ends the group once this many seconds have passed, unless `rest` comes first."""
         self._timer = self._timer_of(timeout)
 
@@ -94,7 +99,7 @@ class Group:
         return Group, ()
 
 
-def start_error(program: object, error: OSError | TypeError | ValueError) -> BsonfindError:
+def _start_error(program: object, error: OSError | TypeError | ValueError) -> BsonfindError:
     """Why a program cannot be started; a word that no program takes is an argument of the caller."""
     kind = ProgramError if isinstance(error, OSError) else ArgumentError
     return kind(f"cannot start {program}: {why(error)}")
@@ -105,32 +110,10 @@ def file_in_memory(program: object) -> IO[bytes]:
     try:
         return open(os.memfd_create("bsonkit"), "w+b")
     except OSError as error:
-        raise start_error(program, error) from error
+        raise _start_error(program, error) from error
 
 
-class Feeder(threading.Thread):
-    """Writes pieces to the pipe of a program, closes it, and keeps what was wrong with the pieces."""
-
-    def __init__(self, pieces: Iterable[bytes], pipe: IO[bytes], kill: Callable[[], object]) -> None:
-        super().__init__(daemon=True)
-        self._pieces, self._pipe, self._kill = pieces, pipe, kill
-        self.error: Exception | None = None
-
-    def run(self) -> None:
-        """Writes all of them, or as many as are read. After an error the program is killed before it sees an end."""
-        try:
-            for piece in self._pieces:
-                self._pipe.write(piece)
-        except BrokenPipeError:
-            pass  # The program reads no more, and its end says why.
-        except Exception as error:  # noqa: BLE001 - it is raised where the run is waited for
-            self.error = error
-            self._kill()
-        finally:
-            close(self._pipe)
-
-
-class Run:
+class Run(AbstractContextManager["Run"]):
     """A run of the program, which is killed where it has not ended when the run is left."""
 
     def __init__(
@@ -140,11 +123,22 @@ class Run:
         stdin: int | IO[bytes] = subprocess.DEVNULL,
         stdout: int = subprocess.PIPE,
         group: Group | None = None,
-        passed: Sequence[int] = (),
+        **how: Any,
     ) -> None:
-        """The program has the descriptors that are passed too."""
-        streams = {"stdin": stdin if pieces is None else subprocess.PIPE, "stdout": stdout, "pass_fds": passed}
-        self._start(words, group, streams)
+        self._group, self._owner = group or Group(), os.getpid()
+        # What writes the pieces, and what was wrong with them.
+        self._feeder: threading.Thread | None = None
+        self._wrong: Exception | None = None
+        self._stderr = file_in_memory(words[0])
+        try:
+            stdin = stdin if pieces is None else subprocess.PIPE
+            self.process = self._group.start(words, stdin=stdin, stdout=stdout, stderr=self._stderr, **how)
+        except BaseException:
+            self._stderr.close()
+            raise
+        # The pipes to its standard input and from its standard output, where these are pipes.
+        self.stdin: IO[bytes] = self.process.stdin  # type: ignore[assignment]
+        self.stdout: io.BufferedReader = self.process.stdout  # type: ignore[assignment]
         if pieces is not None:
             self._feed(pieces, self.stdin)
 
@@ -155,12 +149,7 @@ class Run:
 
     @classmethod
     def serving(cls, dump: Dump, program: str, options: Sequence[str], group: Group) -> Run:
-        """A run of `serve`, which reads commands from its standard input, and the dump from another descriptor.
-
-        Ctrl-C at the terminal reaches the caller alone, so that the session can continue after it.
-        """
-        run = cls.__new__(cls)
-        streams = {"stdin": subprocess.PIPE, "stdout": subprocess.PIPE, "bufsize": _BUFFER, "start_new_session": True}
+        """A run of `serve`, whose commands come by standard input, and the dump by another descriptor. Ctrl-C does not reach it."""
         with ExitStack() as ours:
             if dump.file is not None:
                 read = dump.file.fileno()
@@ -171,56 +160,44 @@ class Run:
             # What is passed has a number above those of the standard streams.
             passed = fcntl.fcntl(read, fcntl.F_DUPFD_CLOEXEC, 3)
             ours.callback(os.close, passed)
-            run._start([program, "serve", f"/dev/fd/{passed}", *options], group, {**streams, "pass_fds": [passed]})
+            words = [program, "serve", f"/dev/fd/{passed}", *options]
+            run = cls(words, stdin=subprocess.PIPE, group=group, pass_fds=[passed], bufsize=_BUFFER, start_new_session=True)
             if dump.pieces is not None:
                 run._feed(dump.pieces, open(os.dup(pipe.fileno()), "wb"))
         return run
 
-    def _start(self, words: Sequence[str], group: Group | None, streams: dict[str, Any]) -> None:
-        self._group = group or Group()
-        self._feeder: Feeder | None = None
-        self._owner = os.getpid()
-        self._stderr = file_in_memory(words[0])
-        try:
-            self.process = self._group.start(words, **streams, stderr=self._stderr)
-        except BaseException:
-            self._stderr.close()
-            raise
-
     def _feed(self, pieces: Iterable[bytes], pipe: IO[bytes]) -> None:
         """Begins to write pieces to a pipe."""
         try:
-            self._feeder = Feeder(pieces, pipe, self.process.kill)
-            self._feeder.start()
+            feeder = threading.Thread(target=self._write, args=(pieces, pipe), daemon=True)
+            feeder.start()
         except BaseException:
-            self._feeder = None
             self.close()
             raise
+        self._feeder = feeder
 
-    @property
-    def stdin(self) -> IO[bytes]:
-        """The pipe to standard input."""
-        assert self.process.stdin is not None
-        return self.process.stdin
-
-    @property
-    def stdout(self) -> io.BufferedReader:
-        """The pipe from standard output."""
-        assert isinstance(self.process.stdout, io.BufferedReader)
-        return self.process.stdout
+    def _write(self, pieces: Iterable[bytes], pipe: IO[bytes]) -> None:
+        """Writes all pieces, or as many as are read, and closes the pipe. After an error the program is killed before it sees an end."""
+        try:
+            for piece in pieces:
+                pipe.write(piece)
+        except BrokenPipeError:
+            pass  # The program reads no more, and its end says why.
+        except Exception as error:  # noqa: BLE001 - it is raised where the run is waited for
+            self._wrong = error
+            self.process.kill()
+        finally:
+            close(pipe)
 
     def wait(self) -> int:
-        """The status, once the run has ended, and 0 where another part of this process took it.
-
-        Raises why its group was ended, or what was wrong with the pieces.
-        """
+        """The status, once the run has ended, 0 if another part took it. Raises why its group was ended, or what the pieces raised."""
         status = self.process.wait()
         if self._group.error:
             raise self._group.error
         if self._feeder:
             self._feeder.join()
-            if self._feeder.error:
-                raise self._feeder.error
+        if self._wrong:
+            raise self._wrong
         return status
 
     def messages(self) -> str:
@@ -254,16 +231,36 @@ class Run:
         self._group.leave(self.process)
         if self._feeder:
             self._feeder.join(_PATIENCE)
-        for stream in (self.process.stdin, self.process.stdout):
-            if stream:
-                close(stream)
+        for stream in filter(None, (self.stdin, self.stdout)):
+            close(stream)
         self._stderr.close()
-
-    def __enter__(self) -> Run:
-        return self
 
     def __exit__(self, *_: object) -> None:
         self.close()
+
+
+def wide_program(program: object, group: Group | None = None) -> str:
+    """The program for all types that goes with a program; one that cannot be started or is of another version is refused, once."""
+    wide = wide_beside(program)
+    with _lock:
+        if wide not in _known:
+            _refuse_other_version(wide, group)
+            _known.add(wide)
+    return wide
+
+
+def _refuse_other_version(wide: str, group: Group | None) -> None:
+    from .. import __version__
+
+    with Run([wide, "--version"], group=group) as run:
+        told = run.stdout.read(_BUFFER).decode(errors="replace")
+        if run.wait() or run.messages():
+            raise run.error()
+    found = _VERSION.fullmatch(told)
+    if not found:
+        raise ProgramError(f"{wide} is not bsonwide: it printed {told[:60]!r}")
+    if found[1] != __version__:
+        raise ProgramError(f"{wide} is of version {found[1]}, and the package of Python of version {__version__}: install one version of both")
 
 
 def check_owner(owner: int) -> None:
@@ -281,7 +278,4 @@ def close(pipe: IO[bytes]) -> None:
 
 
 def processors() -> int:
-    """How many processors this process may use."""
-    if hasattr(os, "sched_getaffinity"):
-        return len(os.sched_getaffinity(0))
-    return os.cpu_count() or 1
+    return len(os.sched_getaffinity(0))

@@ -15,15 +15,20 @@ def located(program: str) -> str:
 
 def wide_beside(program: object) -> str:
     """The program for all types that goes with a program: the one beside it or what it links to, and else the one that is found."""
-    from .._names import name_of
+    from .._arguments import name_of
 
     name = name_of(program)  # type: ignore[arg-type]
-    return _wide_beside(name) or (located("bsonwide") if _found(name) else name)
+    return located_wide(name) or ("bsonwide" if _found(name) else name)
 
 
 def located_wide(program: str) -> str | None:
     """The file of that program, None if there is none."""
-    return _wide_beside(program) or (_found("bsonwide") if _found(program) else None)
+    found = _found(program)
+    for file in (found, os.path.realpath(found)) if found else ():
+        beside = os.path.join(os.path.dirname(file), "bsonwide")
+        if _is_program(beside):
+            return beside
+    return found and _found("bsonwide")
 
 
 def says(program: str, text: bytes) -> bool:
@@ -44,15 +49,6 @@ def says(program: str, text: bytes) -> bool:
     return told == text
 
 
-def _wide_beside(program: str) -> str | None:
-    found = _found(program)
-    for file in (found, os.path.realpath(found)) if found else ():
-        beside = os.path.join(os.path.dirname(file), "bsonwide")
-        if _is_program(beside):
-            return beside
-    return None
-
-
 def _found(program: str) -> str | None:
     """The file of a program by its name, as a shell finds it, but that beside the package comes first."""
     if os.path.dirname(program):
@@ -66,9 +62,8 @@ def _found(program: str) -> str | None:
 
 def _beside_package() -> list[str]:
     packages = os.path.dirname(os.path.dirname(os.path.dirname(os.path.abspath(__file__))))
-    if os.path.basename(packages) not in _PACKAGES:
-        return []
-    return [os.path.join(os.path.dirname(os.path.dirname(os.path.dirname(packages))), "bin")]
+    prefix = os.path.dirname(os.path.dirname(os.path.dirname(packages)))
+    return [os.path.join(prefix, "bin")] if os.path.basename(packages) in _PACKAGES else []
 
 
 def _is_program(file: str) -> bool:
