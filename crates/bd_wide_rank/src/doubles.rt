@@ -11,7 +11,7 @@ ghost use Rattle.bd_wide_rank.specs.inside.Key.{IsKey};
 
 use crate::between::Between;
 use crate::hints::{Hints, TRIES};
-use crate::position::Position;
+use crate::order::Order;
 use bd_value::NoMemory;
 use std::alloc::Global;
 
@@ -19,7 +19,8 @@ use std::alloc::Global;
 #[derive(Drop)]
 pub(crate) struct Doubles {
     pub keys: Vec<u64>,
-    /// Where the keys are, once they are sorted.
+    /// Where the keys are, once they are sorted: in the order in which they were added, or by hints.
+    order: Order,
     hints: Hints,
     /// If there are this many, repeats are dropped before the next one.
     limit: usize,
@@ -30,7 +31,6 @@ pub(crate) struct Doubles {
 const LEAST_LIMIT: usize = 1024;
 
 impl Doubles {
-    ghost use Rattle.bd_wide_rank.specs.inside.Position.{IsPosition, position_worth};
     ghost use Rattle.bd_wide_rank.specs.Key.{key_worths};
 
     /// No doubles.
@@ -39,6 +39,7 @@ impl Doubles {
     {
         Doubles {
             keys: Vec::new(alloc),
+            order: Order::new(alloc),
             hints: Hints::new(alloc),
             limit: LEAST_LIMIT,
         }
@@ -56,6 +57,7 @@ impl Doubles {
             self.drop_repeats();
         }
         self.keys.push(key)?;
+        self.order.add(key);
         Ok(())
     }
 
@@ -65,7 +67,10 @@ impl Doubles {
         ensures rising { IsStrictlyIncreasing self.new.keys.items }
     {
         self.drop_repeats();
-        note_all(&mut self.hints, &self.keys);
+        self.order.note_all(&self.keys);
+        if !self.order.is_kept() {
+            note_all(&mut self.hints, &self.keys);
+        }
     }
 
     /// Sorts the doubles, and drops repeats.
@@ -75,11 +80,28 @@ impl Doubles {
     {
         self.keys.sort_unstable();
         self.keys.dedup();
+        self.order.drop_if_few(self.keys.len());
         self.limit = self.keys.len().saturating_mul(4).max(LEAST_LIMIT);
     }
 
-    /// The index of a double, if a hint finds it.
+    /// The index of a double, if a guess finds it: fast in the order in which the doubles were added.
     pub(crate) fn find(&self, key: u64) -> Option<usize>
+        ensures { IfSome result (λ i. (i < length self.now.keys.items)
+            × HoldsAt (λ k. k ≡ key) self.now.keys.items i) }
+    {
+        if let Some(index) = self.order.guess() {
+            if let Some(next) = self.keys.get(index) {
+                if *next == key {
+                    self.order.advance();
+                    return Some(index);
+                }
+            }
+        }
+        self.hinted(key)
+    }
+
+    /// The index of a double, if a hint finds it.
+    fn hinted(&self, key: u64) -> Option<usize>
         ensures { IfSome result (λ i. (i < length self.now.keys.items)
             × HoldsAt (λ k. k ≡ key) self.now.keys.items i) }
     {
@@ -92,23 +114,32 @@ impl Doubles {
         None
     }
 
-    /// The rank of a number among the doubles, from a guess at how many are less.
-    pub(crate) fn rank(&self, position: Position, guess: usize) -> u64
+    /// The key of the double with an index, if there is one.
+    pub(crate) fn key_at(&self, index: usize) -> u64 {
+        self.keys.get(index).map_or(0, |key| *key)
+    }
+
+    /// Now and then guesses at the indexes of the next doubles.
+    pub(crate) fn ahead(&self) -> &[u64] {
+        self.order.ahead()
+    }
+
+    /// The rank of a double among these, by its index if that is known.
+    pub(crate) fn rank(&self, key: u64, index: Option<usize>) -> u64
         requires rising { IsStrictlyIncreasing self.now.keys.items }
-        requires position { IsPosition position }
-        ensures { result ≡ rank (key_worths self.now.keys.items) (position_worth position) }
+        requires key { IsKey key }
+        requires index { IfSome index (λ i. (i < length self.now.keys.items)
+            × HoldsAt (λ k. k ≡ key) self.now.keys.items i) }
+        ensures { result ≡ rank (key_worths self.now.keys.items) (key_worth key) }
     {
-        match position {
-            Position::Double(key) => match self.find(key) {
-                Some(i) => 2 * i as u64 + 1,
-                None => self.searched_rank(key),
-            },
-            Position::Between(number) => self.rank_between(number, guess),
+        match index {
+            Some(i) => 2 * i as u64 + 1,
+            None => self.searched_rank(key),
         }
     }
 
     /// The rank of a number that no double equals, from a guess at how many doubles are less.
-    fn rank_between(&self, number: Between, guess: usize) -> u64
+    pub(crate) fn rank_between(&self, number: Between, guess: usize) -> u64
         requires { IsStrictlyIncreasing self.now.keys.items }
         ensures { result ≡ rank (key_worths self.now.keys.items) (between_worth number) }
     {

@@ -26,7 +26,7 @@
 //! - `numbers`: `Numbers`, the numbers of a dump on the way to a table.
 //! - `table`: `Table`, the distinct numbers of a dump, and the code of any number among them.
 //! - `doubles`, `others`: the two rows of a table: doubles by their keys, and numbers that no double equals.
-//! - `hints`: guesses at the places of the numbers of a row in it; `guesses`: in the other row.
+//! - `hints`, `order`: guesses at the places of the numbers of a row in it, by a hash and in turn; `guesses`: in the other row.
 //! - `key`: keys of doubles (`specs/Key.antt`).
 //! - `position`, `between`: where numbers are beside the doubles.
 //! - `positioned`, `guess`: the position of a number, from a guess.
@@ -43,6 +43,7 @@ mod key;
 mod laws;
 mod limbs;
 mod numbers;
+mod order;
 mod others;
 mod position;
 mod positioned;

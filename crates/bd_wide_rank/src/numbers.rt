@@ -14,10 +14,11 @@ use crate::table::Table;
 use bd_value::NoMemory;
 use bd_wide_number::Number;
 use std::alloc::Global;
+use std::cell::Cell;
 
 /// Numbers on the way to a table. Repeats are dropped whenever there are four times as many as after the last time, so the memory is
-/// that of the distinct numbers: 16 bytes for one that a double equals and 40 for any other, 4 more for each if there are both, and a
-/// few times that while it grows.
+/// that of the distinct numbers: 8 bytes for one that a double equals and 32 for any other, 4 more for each if there are both, and a
+/// few times that while it grows. Also 8 for each number that was added, or, if that is more than four times, 8 for each distinct one.
 #[derive(Drop)]
 pub struct Numbers {
     doubles: Doubles,
@@ -89,6 +90,7 @@ impl Numbers {
             doubles,
             others,
             guesses,
+            read: Cell::new(0),
         })
     }
 }

@@ -7,6 +7,7 @@ ghost use Rattle.bd_wide_rank.specs.Rank.{HaveSame, rank};
 
 use crate::between::Between;
 use crate::hints::{Hints, TRIES};
+use crate::order::Order;
 use crate::position::{Position, beside, compare_between};
 use bd_value::NoMemory;
 use bd_wide_number::Number;
@@ -16,7 +17,8 @@ use std::alloc::Global;
 #[derive(Drop)]
 pub(crate) struct Others {
     pub numbers: Vec<Between>,
-    /// Where the numbers are, once they are sorted.
+    /// Where the numbers are, once they are sorted: in the order in which they were added, or by hints.
+    order: Order,
     hints: Hints,
     /// If there are this many, repeats are dropped before the next one.
     limit: usize,
@@ -38,6 +40,7 @@ impl Others {
     {
         Others {
             numbers: Vec::new(alloc),
+            order: Order::new(alloc),
             hints: Hints::new(alloc),
             limit: LEAST_LIMIT,
         }
@@ -54,6 +57,7 @@ impl Others {
             self.drop_repeats();
         }
         self.numbers.push(number)?;
+        self.order.add(number.key);
         Ok(())
     }
 
@@ -64,7 +68,11 @@ impl Others {
         ensures rising { IsStrictlySortedBy between_cmp self.new.numbers.items }
     {
         self.drop_repeats();
-        note_all(&mut self.hints, &self.numbers);
+        let alloc = *self.numbers.allocator();
+        note_order(alloc, &mut self.order, &self.numbers);
+        if !self.order.is_kept() {
+            note_all(&mut self.hints, &self.numbers);
+        }
     }
 
     /// Sorts the numbers, and drops repeats.
@@ -77,11 +85,55 @@ impl Others {
             .sort_unstable_by(|a, b| compare_between(*a, *b));
         self.numbers
             .dedup_by(|next, last| compare_between(*next, *last).is_eq());
+        self.order.drop_if_few(self.numbers.len());
         self.limit = self.numbers.len().saturating_mul(4).max(LEAST_LIMIT);
     }
 
-    /// The index of a number of the same bits, if a hint finds it.
+    /// The index of a number of the same bits, if a guess finds it: fast in the order in which the numbers were added.
     pub(crate) fn find(&self, number: Number) -> Option<usize>
+        ensures { IfSome result (λ i. (i < length self.now.numbers.items)
+            × HoldsAt (λ b. b.number ≡ number) self.now.numbers.items i) }
+    {
+        let Some(index) = self.next_in_order(number) else {
+            return self.hinted(number);
+        };
+        self.order.advance();
+        Some(index)
+    }
+
+    /// The same of a number that is then looked up by `find`.
+    pub(crate) fn peek(&self, number: Number) -> Option<usize>
+        ensures { IfSome result (λ i. (i < length self.now.numbers.items)
+            × HoldsAt (λ b. b.number ≡ number) self.now.numbers.items i) }
+    {
+        let Some(index) = self.next_in_order(number) else {
+            return self.hinted(number);
+        };
+        Some(index)
+    }
+
+    /// The index of a number of the same bits, if it is the next one in the order in which they were added.
+    fn next_in_order(&self, number: Number) -> Option<usize>
+        ensures { IfSome result (λ i. (i < length self.now.numbers.items)
+            × HoldsAt (λ b. b.number ≡ number) self.now.numbers.items i) }
+    {
+        let first = self.order.guess()?;
+        let key = self.numbers.get(first)?.key;
+        for tried in 0..TRIES {
+            let index = first.saturating_add(tried);
+            let other = self.numbers.get(index)?;
+            if is_same(other.number, number) {
+                return Some(index);
+            }
+            if other.key != key {
+                return None;
+            }
+        }
+        None
+    }
+
+    /// The index of a number of the same bits, if a hint finds it.
+    fn hinted(&self, number: Number) -> Option<usize>
         ensures { IfSome result (λ i. (i < length self.now.numbers.items)
             × HoldsAt (λ b. b.number ≡ number) self.now.numbers.items i) }
     {
@@ -95,23 +147,31 @@ impl Others {
         None
     }
 
-    /// The rank of a number among these, from a guess at how many are less.
-    pub(crate) fn rank(&self, position: Position, guess: usize) -> u64
+    /// Now and then guesses at the indexes of the next numbers.
+    pub(crate) fn ahead(&self) -> &[u64] {
+        self.order.ahead()
+    }
+
+    /// The key of the number with an index, if there is one.
+    pub(crate) fn key_at(&self, index: usize) -> u64 {
+        self.numbers.get(index).map_or(0, |number| number.key)
+    }
+
+    /// The rank of a number among these, by its index if that is known.
+    pub(crate) fn rank(&self, number: Between, index: Option<usize>) -> u64
         requires rising { IsStrictlySortedBy between_cmp self.now.numbers.items }
-        requires position { IsPosition position }
-        ensures { result ≡ rank (between_worths self.now.numbers.items) (position_worth position) }
+        requires index { IfSome index (λ i. (i < length self.now.numbers.items)
+            × HoldsAt (λ b. b.number ≡ number.number) self.now.numbers.items i) }
+        ensures { result ≡ rank (between_worths self.now.numbers.items) (between_worth number) }
     {
-        match position {
-            Position::Double(key) => self.rank_of_double(key, guess),
-            Position::Between(number) => match self.find(number.number) {
-                Some(i) => 2 * i as u64 + 1,
-                None => self.searched_rank(position),
-            },
+        match index {
+            Some(i) => 2 * i as u64 + 1,
+            None => self.searched_rank(Position::Between(number)),
         }
     }
 
     /// The rank of a double among these, from a guess at how many are less.
-    fn rank_of_double(&self, key: u64, guess: usize) -> u64
+    pub(crate) fn rank_of_double(&self, key: u64, guess: usize) -> u64
         requires rising { IsStrictlySortedBy between_cmp self.now.numbers.items }
         requires key { IsKey key }
         ensures { result ≡ rank (between_worths self.now.numbers.items) (key_worth key) }
@@ -167,6 +227,32 @@ fn starts_above(numbers: &[Between], index: usize, key: u64) -> bool
         Some(next) => key <= next.key,
         None => true,
     }
+}
+
+/// Notes the indexes of the numbers of a row in the order in which they were added, unless many have one key.
+fn note_order(alloc: Global, order: &mut Order, numbers: &[Between]) {
+    let mut keys = Vec::new(alloc);
+    for number in numbers {
+        if keys.push(number.key).is_err() {
+            order.give_up();
+            return;
+        }
+    }
+    if are_crowded(&keys) {
+        order.give_up();
+    }
+    order.note_all(&keys);
+}
+
+/// Whether more than one key of sixteen stands so often that a guess can fail.
+fn are_crowded(keys: &[u64]) -> bool {
+    let mut crowded: usize = 0;
+    for index in TRIES..keys.len() {
+        if keys.get(index.wrapping_sub(TRIES)) == keys.get(index) {
+            crowded = crowded.saturating_add(1);
+        }
+    }
+    crowded > keys.len() / 16
 }
 
 /// Whether two numbers have the same type and the same bits.

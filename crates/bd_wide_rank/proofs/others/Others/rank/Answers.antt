@@ -7,6 +7,6 @@ use Rattle.bd_wide_rank.proofs.others.Others.rank.Goals as goal
 pub returns-in-Some : goal.returns-in-Some
 returns-in-Some c =
     let xs = c.args.self.now.numbers.items in
-    let b = c.in-Between.number in
-    let found = c.in-Some.ensures in
-    rw c.in-Between.is (sym (found_rank between_worth (worth_of b.number) xs c.in-Some.i found.0 (rises between_worth xs c.requires.rising) (λ d. ap worth_of (found.1 d))))
+    let b = c.args.number in
+    let found = rw c.in-Some.is at c.requires.index in
+    sym (found_rank between_worth (worth_of b.number) xs c.in-Some.i found.0 (rises between_worth xs c.requires.rising) (λ d. ap worth_of (found.1 d)))
