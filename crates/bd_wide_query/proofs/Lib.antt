@@ -1,4 +1,5 @@
 pub mod ExcludeLemmas
+pub mod KindLemmas
 pub mod NameLemmas
 pub mod NanLemmas
 pub mod NumberLemmas

@@ -1,5 +1,5 @@
 -- `$type` and the four types of numbers: double, int, long and decimal (MongoDB manual, "$type").
-use Rattle.std.specs.Prelude.{ℕ, ℤ, pos, Bool, true, false, ◌&&◌, ◌||◌, not, List, Option, Some, None, codes, if◌then◌else◌}
+use Rattle.std.specs.Prelude.{◌≡◌, ◌⊎◌, ℕ, ℤ, pos, Bool, true, false, ◌&&◌, ◌||◌, not, List, Option, Some, None, codes, if◌then◌else◌}
 use Rattle.std.specs.{Bool.beq, List.list_any, Ordering.int_eq, Str.bytes_eq}
 use Rattle.bd_value.specs.declared.node.Kind.TheVariants as kinds
 use Rattle.bd_value.specs.Tree.{int32, int64, text, Tree, leaf, doc, array, code_scope, Items, no_items, item, elements_in}
@@ -78,6 +78,26 @@ abbrev mutual
   pub items_are_alike : NumberType → NumberType → Items → Bool
   items_are_alike j k no_items = true
   items_are_alike j k (item t ts) = is_alike j k t && items_are_alike j k ts
+
+-- A `$type` in a query, at any level, has this operand.
+abbrev mutual
+  -- A `$type` in the value has this operand.
+  pub HasOperand : Tree → Tree → Type 0
+  HasOperand (leaf s) operand = ⊥
+  HasOperand (doc fs) operand = FieldsHaveOperand fs operand
+  HasOperand (array ts) operand = ItemsHaveOperand ts operand
+  HasOperand (code_scope s fs) operand = FieldsHaveOperand fs operand
+
+  -- A `$type` in the fields, at any level, has this operand.
+  pub FieldsHaveOperand : Fields → Tree → Type 0
+  FieldsHaveOperand no_fields operand = ⊥
+  FieldsHaveOperand (field n t fs) operand =
+      ((n ≡ codes "$type") × (t ≡ operand)) ⊎ (HasOperand t operand ⊎ FieldsHaveOperand fs operand)
+
+  -- A `$type` in the elements of an array has this operand.
+  pub ItemsHaveOperand : Items → Tree → Type 0
+  ItemsHaveOperand no_items operand = ⊥
+  ItemsHaveOperand (item t ts) operand = HasOperand t operand ⊎ ItemsHaveOperand ts operand
 
 -- ---- two classes of types
 

@@ -34,7 +34,7 @@
 //! ```
 //!
 //! - `coded`: `code_query`, and the values of both documents in step.
-//! - `laws`: a filter beside NaN by value, and the same filter with codes.
+//! - `laws`: a filter beside NaN by value, and the same filter with codes; `$type` by classes and by types.
 //! - `nan`: `exclude_nan`, the filter with codes beside NaN.
 //! - `read`: `read_query`, the two documents of a text and its numbers.
 //! - `role`: what a value of a query is: whether it is compared with.
@@ -49,7 +49,7 @@ mod role;
 mod types;
 
 pub use coded::code_query;
-pub use laws::{numbers_relate_beside_nan, renumbered_beside_nan};
+pub use laws::{numbers_relate_beside_nan, renumbered_beside_nan, types_match_by_class};
 pub use nan::exclude_nan;
 pub use read::{WideQuery, read_query};
 pub use types::{classes_of, takes_types_alike};
