@@ -21,7 +21,7 @@ add() {
 }
 
 # What an earlier run left is not tested in place of what the gate builds.
-rm -f crates/bsonfind/out/bsonfind crates/bsonwide/out/bsonwide crates/bd_growth_tests/out/bd_growth_tests_tests
+rm -f crates/bsonfind/out/bsonfind crates/bsonwide/out/bsonwide crates/*growth_tests/out/*growth_tests_tests
 tools/meter.py --table "$times" rt ci | tee "$log"
 add
 
@@ -56,12 +56,15 @@ else
 	echo 'the gate did not build both programs: their tests were not run'
 	failed=$((failed + 1))
 fi
-if [ -x crates/bd_growth_tests/out/bd_growth_tests_tests ]; then
-	tests/faults/growing_calls.py | tee "$log"
-	add
-else
-	echo 'the gate left no tests of crates/bd_growth_tests: tests/faults/growing_calls.py was not run'
-fi
+for crate in bd_growth_tests bd_wide_growth_tests; do
+	tests=crates/$crate/out/${crate}_tests
+	if [ -x "$tests" ]; then
+		tests/faults/growing_calls.py "$tests" | tee "$log"
+		add
+	else
+		echo "the gate left no tests of crates/$crate: tests/faults/growing_calls.py was not run over them"
+	fi
+done
 for script in docs/examples.py docs/reference.py docs/imports.py docs/clauses.py docs/words.py; do
 	"tests/$script" | tee "$log"
 	add

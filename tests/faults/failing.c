@@ -1,7 +1,7 @@
 /*
  * Makes growths of memory, reads and writes of a program fail: a library for LD_PRELOAD, by whose names the program comes
  * here before it comes to the C library. failing.py compiles it and runs the program over it, and growing_calls.py the tests
- * of crates/bd_growth_tests.
+ * of crates/bd_growth_tests and crates/bd_wide_growth_tests.
  *
  * Calls are counted from 1, from the moment at which this library is ready: after the loader and before main, so that all
  * that the program itself asks for is counted. What is not in the environment is left alone.

@@ -1,11 +1,11 @@
 #!/usr/bin/env python3
-"""Runs the tests of crates/bd_growth_tests with each growth of their memory refused in turn, one a run.
+"""Runs the tests of a crate of calls that grow with each growth of their memory refused in turn, one a run.
 
 usage: tests/faults/growing_calls.py [PROGRAM]   The last line is 'N passed, M failed'.
 
-PROGRAM is the tests as the gate, or `rt test` in that crate, proved and built them. Of each test the first growth is refused, then
-the second, and so on until a run meets no refusal; that run passes too. They run over tests/faults/failing.c; without a C compiler, `cc`,
-nothing is tested.
+PROGRAM is the tests of such a crate, bd_growth_tests or bd_wide_growth_tests, as the gate, or `rt test` in it, proved and built them;
+without it those of bd_growth_tests. Of each test the first growth is refused, then the second, and so on until a run meets no refusal;
+that run passes too. They run over tests/faults/failing.c; without a C compiler, `cc`, nothing is tested.
 """
 
 import os
@@ -72,7 +72,7 @@ def main() -> int:
     if not shutil.which("cc"):
         print("there is no C compiler: no growth was refused")
     elif not program.is_file():
-        print(f"{program} is not built: run rt test in crates/bd_growth_tests")
+        print(f"{program} is not built: run rt test in its crate")
         failed = 1
     else:
         with tempfile.TemporaryDirectory() as room:
