@@ -142,7 +142,7 @@ pub tabs_of : (t m : ℕ) → t ≤ 31 → m ≡ suc t → take m (10 ∷ replic
 tabs_of t m few is = ap (λ (i : ℕ). take i (10 ∷ replicate 31 9)) is ∙ ap (λ (l : List ℕ). 10 ∷ l) (take-replicate t 31 9 few)
 
 -- a block was written into the buffer of a vector
-pub block_put : (len end k : ℕ) (buffer items shown text : List ℕ) → length buffer ≡ length items → len ≡ length items → shown ≡ items
-    → take (end + k) buffer ≡ take end shown ++ take k text → take (end + k) (take len (buffer ++ drop (length buffer) items)) ≡ take end items ++ take k text
-block_put len end k buffer items shown text same all is put =
+pub block_put : (len end k : ℕ) (buffer items printed text : List ℕ) → length buffer ≡ length items → len ≡ length items → printed ≡ items
+    → take (end + k) buffer ≡ take end printed ++ take k text → take (end + k) (take len (buffer ++ drop (length buffer) items)) ≡ take end items ++ take k text
+block_put len end k buffer items printed text same all is put =
     lent_text len (end + k) buffer items (take end items ++ take k text) same all (put ∙ ap (λ (l : List ℕ). take end l ++ take k text) is)

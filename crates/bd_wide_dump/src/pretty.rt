@@ -115,7 +115,8 @@ fn append_prefix(text: &[u8], size: usize, out: &mut Vec<u8>, end: usize) -> End
 #[inline(always)]
 fn put_block(text: &[u8], buffer: &mut [u8], end: usize)
     requires { (BLOCK ≤ length text.now) × (end + BLOCK ≤ length buffer.old) }
-    ensures { (k : ℕ) → k ≤ BLOCK → take (end + k) buffer.new ≡ take end buffer.old ++ take k text.now }
+    ensures { (k : ℕ) → k ≤ BLOCK →
+        take (end + k) buffer.new ≡ take end buffer.old ++ take k text.now }
 {
     buffer[end..end + BLOCK].copy_from_slice(&text[..BLOCK]);
 }

@@ -8,7 +8,7 @@ use std::cell::Cell;
 #[derive(Drop)]
 pub(crate) struct Order {
     /// Keys, and once there is a row, indexes in it.
-    places: Vec<u64>,
+    entries: Vec<u64>,
     /// The keys of a part, sorted.
     part: Vec<Added>,
     /// Whether all keys are here.
@@ -30,7 +30,7 @@ const MOST_REPEATS: usize = 4;
 /// Fewer keys are always kept.
 const LEAST: usize = 4096;
 
-/// The keys are sorted in so many parts, which takes less memory.
+/// The keys are sorted in this number of parts, which takes less memory.
 const PARTS: usize = 8;
 
 /// How many numbers are read at once.
@@ -40,7 +40,7 @@ impl Order {
     /// No numbers.
     pub(crate) fn new(alloc: Global) -> Order {
         Order {
-            places: Vec::new(alloc),
+            entries: Vec::new(alloc),
             part: Vec::new(alloc),
             is_kept: true,
             next: Cell::new(0),
@@ -54,7 +54,7 @@ impl Order {
 
     /// Adds a number with a key. If memory runs out, the order is lost.
     pub(crate) fn add(&mut self, key: u64) {
-        if self.is_kept && self.places.push(key).is_err() {
+        if self.is_kept && self.entries.push(key).is_err() {
             self.give_up();
         }
     }
@@ -62,12 +62,12 @@ impl Order {
     /// Drops the order.
     pub(crate) fn give_up(&mut self) {
         self.is_kept = false;
-        free(&mut self.places);
+        free(&mut self.entries);
     }
 
     /// Drops the order if there are few distinct numbers in it.
     pub(crate) fn drop_if_few(&mut self, distinct: usize) {
-        if self.places.len() > LEAST && self.places.len() / MOST_REPEATS > distinct {
+        if self.entries.len() > LEAST && self.entries.len() / MOST_REPEATS > distinct {
             self.give_up();
         }
     }
@@ -75,19 +75,19 @@ impl Order {
     /// Notes the indexes of the numbers in a row with these keys, in order: of several with one key the first. If memory runs out, the
     /// order is lost.
     pub(crate) fn note_all(&mut self, keys: &[u64]) {
-        let count = (self.places.len() / PARTS).saturating_add(LEAST);
+        let count = (self.entries.len() / PARTS).saturating_add(LEAST);
         for part in 0..PARTS {
             self.note_part(keys, part.saturating_mul(count), count);
         }
         free(&mut self.part);
     }
 
-    /// The same for so many numbers.
+    /// The same for `count` of the numbers, from `start` on.
     fn note_part(&mut self, keys: &[u64], start: usize, count: usize) {
         self.part.clear();
-        let end = start.saturating_add(count).min(self.places.len());
+        let end = start.saturating_add(count).min(self.entries.len());
         for at in start..end {
-            let key = match self.places.get(at) {
+            let key = match self.entries.get(at) {
                 Some(key) => *key,
                 None => return,
             };
@@ -100,15 +100,15 @@ impl Order {
         let mut index = 0;
         for added in &self.part {
             index = index_from(keys, index, added.key);
-            if let Some(place) = self.places.get_mut(added.at) {
-                *place = index as u64;
+            if let Some(entry) = self.entries.get_mut(added.at) {
+                *entry = index as u64;
             }
         }
     }
 
     /// A guess at the index of the number that is looked up next.
     pub(crate) fn guess(&self) -> Option<usize> {
-        Some(*self.places.get(self.next.get())? as usize)
+        Some(*self.entries.get(self.next.get())? as usize)
     }
 
     /// Notes that the guess was right.
@@ -122,9 +122,9 @@ impl Order {
         if next % AHEAD != 0 {
             return &[];
         }
-        let end = next.saturating_add(AHEAD).min(self.places.len());
-        match self.places.get(next..end) {
-            Some(places) => places,
+        let end = next.saturating_add(AHEAD).min(self.entries.len());
+        match self.entries.get(next..end) {
+            Some(entries) => entries,
             None => &[],
         }
     }

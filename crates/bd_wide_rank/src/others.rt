@@ -244,7 +244,7 @@ fn note_order(alloc: Global, order: &mut Order, numbers: &[Between]) {
     order.note_all(&keys);
 }
 
-/// Whether more than one key of sixteen stands so often that a guess can fail.
+/// Whether more than one key of sixteen occurs so often that a guess can fail.
 fn are_crowded(keys: &[u64]) -> bool {
     let mut crowded: usize = 0;
     for index in TRIES..keys.len() {

@@ -1,4 +1,4 @@
--- How far a text that is laid out goes on as it is.
+-- How far a text that is laid out continues as it is.
 use Rattle.std.specs.Prelude.{◌≡◌, ℕ, List, ◌++◌, take, drop, slice_index}
 use Rattle.bd_wide_dump.specs.declared.pretty.Position.{Position}
 use Rattle.bd_wide_dump.specs.declared.pretty.Position.TheVariants.{Outside, Inside}
