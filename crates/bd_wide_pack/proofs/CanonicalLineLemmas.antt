@@ -1,5 +1,5 @@
 -- Canonical text of documents of all types, read from its start and packed.
-use Rattle.std.proofs.Common.{◌≡◌, ◌<◌, ◌≤◌, ◌+◌, ◌-◌, ℕ, zero, suc, List, [], ◌∷◌, ◌++◌, length, length-append, append_assoc, append-nil, refl, sym, ap, ap₂, ◌∙◌, ◌==◌, arith, decimal, inl, inr, subst, ◌||◌}
+use Rattle.std.proofs.Common.{◌≡◌, ◌<◌, ◌≤◌, ◌+◌, ◌-◌, ℕ, zero, suc, List, [], ◌∷◌, ◌++◌, length, length-append, append_assoc, append-nil, refl, sym, ap, ap₂, ◌∙◌, ◌==◌, arith, decimal, inl, inr, subst}
 use Rattle.std.proofs.Common.{true, false, true≢false, ◌≢◌, None, Some}
 use Rattle.std.proofs.lemmas.Str.{IsUtf8-from_ascii}
 use Rattle.std.specs.Prelude.{codes, IsUtf8}
@@ -10,15 +10,14 @@ use Rattle.bd_value.specs.Fits.{ScalarFits, has_zero, zero_in_scalar}
 use Rattle.bd_value.specs.Tree as trees
 use Rattle.bd_value.specs.Tree.{Scalar, Tree, Doc, Items, Fields, no_items, item, no_fields, field, leaf, doc, array, code_scope, fields_of, items_of}
 use Rattle.bd_bson_view.specs.Unique.{number_length}
-use Rattle.bd_bson_view.specs.Spelling.{IsScalar, NumberKind, as_double, as_decimal128, element, framed, long, number, scalar_bytes, string, type_byte, written_typed}
-use Rattle.bd_bson_write.specs.TreeBytes.{SpellsPlainly, bytes_of}
+use Rattle.bd_bson_view.specs.Spelling.{IsScalar, as_double, as_decimal128, element, framed, long, number, scalar_bytes, string, type_byte, written_typed}
+use Rattle.bd_bson_write.specs.TreeBytes.{bytes_of}
 use Rattle.bd_bson_write.proofs.WritingLemmas.{element_size, plainly_spells}
 use Rattle.bd_extjson.specs.Laws.{IsPlainFirst}
-use Rattle.bd_extjson_text.specs.Text.{escaped, escape_byte, member, needs_escape, object, quoted, scalar_text, text}
+use Rattle.bd_extjson_text.specs.Text.{escaped, member, needs_escape, object, quoted, scalar_text, text}
 use Rattle.bd_extjson_wrapper.specs.Wrapper.{wrapper_of}
 use Rattle.bd_extjson_pack.specs.Canonical.{IsCanonical}
 use Rattle.bd_extjson_pack.specs.Packable.{plain}
-use Rattle.bd_wide_dump.specs.Raw.{raw}
 use Rattle.bd_wide_number.specs.declared.number.Number.{Number}
 use Rattle.bd_wide_number.specs.declared.number.Number.TheVariants.{Whole, Double, Decimal128}
 use Rattle.bd_wide_substitute.specs.declared.wrapped.WideValue.TheVariants as values
@@ -28,9 +27,9 @@ use Rattle.bd_wide_pack.specs.Filled.{kept, numeric}
 use Rattle.bd_wide_pack.specs.WideLine.{IsPacked}
 use Rattle.bd_wide_pack.specs.Written.{AreFieldsWritten, AreItemsWritten, IsWritten}
 use Rattle.bd_wide_pack.specs.inside.CanonicalLine.{AreFieldLines, AreItemLines, IsLine, number_bytes}
-use Rattle.bd_wide_pack.specs.inside.Printed.{AreFieldsPrinted, AreItemsPrinted, IsKindPrinted, IsPrinted, IsTextOfNumber}
+use Rattle.bd_wide_pack.specs.inside.Printed.{AreFieldsPrinted, AreItemsPrinted, IsPrinted, IsTextOfNumber}
 use Rattle.bd_wide_pack.proofs.MixLemmas.{kept_value}
-use Rattle.bd_wide_pack.proofs.RoundTripLemmas.{printed_packed}
+use Rattle.bd_wide_pack.proofs.SameValuesLemmas.{printed_packed}
 
 -- ---- one more
 
@@ -190,7 +189,7 @@ first_plain n (field name t fs) members body line = line.5.2
 mutual
   line_printed : (n : ℕ) (t : Tree) (text : List ℕ) (type : ℕ) (bytes : List ℕ) → IsLine n t text type bytes → IsPrinted n t text
   line_printed n (leaf s) text type bytes (inl k) = inl k.printed
-  line_printed n (leaf s) text type bytes (inr d) = inr d.printed
+  line_printed n (leaf s) text type bytes (inr d) = inr (inl d.printed)
   line_printed (suc n) (doc fs) text type bytes line = (first_plain n fs line.0 line.1 line.2, line.0, fields_printed n fs line.0 line.1 line.2, line.3)
   line_printed (suc n) (array ts) text type bytes line = (line.0, items_printed n 0 ts line.0 line.1 line.2, line.3)
   line_printed zero (doc fs) text type bytes line = absurd line

@@ -1,21 +1,21 @@
--- A text in chunks is in pieces: strings, runs of bytes of numbers, single bytes, and the texts of its numbers.
-use Rattle.std.proofs.Common.{◌≡◌, ◌≢◌, ◌<◌, ◌≤◌, ne_eqb, ◌||◌, ℕ, zero, suc, ◌+◌, ◌-◌, ◌==◌, nat_eq, Bool, true, false, cond, ◌&&◌, List, [], ◌∷◌, ◌++◌, length, take, drop, refl, sym, ap, ◌∙◌, subst, inl, inr, arith, codes, append_assoc, take_at, take-append-drop, Option, Some, None, Result, Ok, Err, ◌⊎◌}
-use Rattle.std.specs.Prelude.{IsUtf8}
-use Rattle.std.specs.{List.list_any, Cmp.Lexicographic.pointwise, Cmp.Lexicographic.bytes_decides, Option.option_map_or}
+-- A text in chunks is in pieces: strings, runs of bytes of numbers, single bytes, and the texts of its numbers and dates.
+use Rattle.std.proofs.Common.{◌≡◌, ◌<◌, ◌≤◌, ne_eqb, ◌||◌, ℕ, zero, suc, ◌==◌, Bool, true, false, cond, ◌&&◌, List, [], ◌∷◌, ◌++◌, refl, sym, ap, ◌∙◌, subst, inl, inr, arith, codes, append_assoc, Option, Some, None, Ok, Err}
+use Rattle.std.specs.Prelude.{ℤ}
+use Rattle.std.specs.{List.list_any}
 use Rattle.std.proofs.lemmas.Bool.{and_parts, cases_lt, cases_eq}
 use Rattle.json.specs.Print as kit_print
 use Rattle.json.specs.Print.{ends, token_text}
-use Rattle.json.specs.Text.{content, plain}
 use Rattle.json.specs.Token.{Token}
-use Rattle.json.proofs.Printed.Strings.{content-escape, escape_byte_plain}
+use Rattle.json.proofs.Printed.Strings.{escape_byte_plain}
+use Rattle.bd_value.specs.Tree.{date}
+use Rattle.bd_extjson_text.specs.Text.{scalar_text}
 use Rattle.bd_wide_number.specs.declared.number.Number.{Number}
-use Rattle.bd_wide_read.specs.declared.fault.TextFault.{TextFault}
 use Rattle.bd_wide_read.specs.declared.fault.TextFault.TheVariants.{BadText}
-use Rattle.bd_wide_read.specs.DoubleText.{number_bits}
 use Rattle.bd_wide_substitute.specs.declared.wrapped.WideValue.{WideValue}
 use Rattle.bd_wide_substitute.specs.declared.wrapped.WideValue.TheVariants as values
-use Rattle.bd_wide_substitute.specs.Substitutes.{ArePieces, BeginsValue, Filler, IsBefore, IsDouble, IsNoDouble, Piece, Wrapper, after, after_escaped, after_string, all_numbers, filled, is_blank, is_of_number, last_string, named, numbers_in, original, same, strip, value, with_fillers, wrapper_at}
-use Rattle.bd_wide_pack.proofs.JsonLemmas.{Chunk, chunk_begins, chunk_ends, chunk_text, filled_text, printed, token, valued}
+use Rattle.bd_wide_substitute.specs.Substitutes.{ArePieces, BeginsValue, Filler, IsBefore, Piece, Wrapper, after, after_escaped, after_string, all_numbers, filled, is_of_number, numbers_in, original, same, value, with_fillers, wrapper_at}
+use Rattle.bd_wide_pack.specs.inside.Printed.{IsEnd, IsTextOfValue}
+use Rattle.bd_wide_pack.proofs.JsonLemmas.{Chunk, chunk_begins, chunk_ends, chunk_text, filled_text, instant, printed, token, valued}
 
 -- ---- pieces
 
@@ -50,6 +50,9 @@ module _ (rest : List ℕ) (becomes : Filler → List ℕ) (numbers : List Numbe
 
   a_value : (t : List ℕ) (n : Number) → IsBefore (value t (values.Number n)) rest → InPieces (t ++ rest) (λ s. filled s (value t (values.Number n)) ++ becomes s) (n ∷ numbers)
   a_value t n = one_more (value t (values.Number n))
+
+  a_date : (t : List ℕ) (z : ℤ) → IsBefore (value t (values.Date z)) rest → InPieces (t ++ rest) (λ s. scalar_text (date z) ++ becomes s) numbers
+  a_date t z = one_more (value t (values.Date z))
 
 pub nothing : {A : Type 0} {a : A} → None ≡ Some a → ⊥
 nothing e = cc
@@ -147,10 +150,6 @@ string_before s rest =
 abbrev pub IsWhole : List ℕ → Type 0
 IsWhole ds = (after is_of_number ds ≡ []) × (list_any (λ c. c == 46 || c == 69 || c == 101) ds ≡ false)
 
--- No byte of a number comes next.
-abbrev pub IsEnd : List ℕ → Type 0
-IsEnd rest = after is_of_number rest ≡ rest
-
 whole_before : (ds rest : List ℕ) → IsWhole ds → IsEnd rest → IsBefore (same ds) rest
 whole_before ds rest w end = inr (inl ((w.0, end), λ bits h. let e : false ≡ true = sym w.1 ∙ h.0 in absurd cc))
 
@@ -164,7 +163,8 @@ abbrev pub IsSafe : Chunk → List Chunk → Type 0
 IsSafe (token Token.begin_object) ks = (v : WideValue) (more : List ℕ) → BeginsValue (123 ∷ printed chunk_text false ks) v more → ⊥
 IsSafe (token (Token.number ds)) ks = IsWhole ds
 IsSafe (token Token.bad) ks = ⊥
-IsSafe (valued t n) ks = (rest : List ℕ) → IsEnd rest → IsBefore (value t (values.Number n)) rest
+IsSafe (valued t n) ks = IsTextOfValue t (values.Number n)
+IsSafe (instant t z) ks = IsTextOfValue t (values.Date z)
 IsSafe k ks = Unit {0}
 
 abbrev pub AreSafe : List Chunk → Type 0
@@ -176,6 +176,7 @@ abbrev pub chunk_numbers : List Chunk → List Number
 chunk_numbers [] = []
 chunk_numbers (token t ∷ ks) = chunk_numbers ks
 chunk_numbers (valued t n ∷ ks) = n ∷ chunk_numbers ks
+chunk_numbers (instant t z ∷ ks) = chunk_numbers ks
 
 after_value_end : (ks : List Chunk) → IsEnd (printed chunk_text true ks)
 unfolding printed
@@ -191,6 +192,7 @@ after_value_end (token (Token.boolean b) ∷ ks) = refl
 after_value_end (token Token.null ∷ ks) = refl
 after_value_end (token Token.bad ∷ ks) = refl
 after_value_end (valued t n ∷ ks) = refl
+after_value_end (instant t z ∷ ks) = refl
 
 comma : (b : Bool) (rest : List ℕ) (becomes : Filler → List ℕ) (numbers : List Number) → InPieces rest becomes numbers
     → InPieces (cond b (44 ∷ []) [] ++ rest) (λ s. cond b (44 ∷ []) [] ++ becomes s) numbers
@@ -239,6 +241,7 @@ chunk_pieces (token Token.null) ks safe h =
     byte _ _ _ c 110 refl refl (λ v more b. nothing b.2)
 chunk_pieces (token Token.bad) ks safe h = absurd safe
 chunk_pieces (valued t n) ks safe h = a_value _ _ _ h t n (safe (printed chunk_text true ks) (after_value_end ks))
+chunk_pieces (instant t z) ks safe h = a_date _ _ _ h t z (safe (printed chunk_text true ks) (after_value_end ks))
 
 pub in_pieces : (later : Bool) (ks : List Chunk) → AreSafe ks → InPieces (printed chunk_text later ks) (become_all later ks) (chunk_numbers ks)
 unfolding printed

@@ -1,6 +1,8 @@
--- JSON in which some values are numbers with texts of their own, and the same JSON with other values for these.
+-- JSON in which some values are numbers or dates with texts of their own, and the same JSON with other values for the numbers and
+-- with canonical dates.
 use Rattle.std.proofs.Common.{◌≡◌, ℕ, zero, suc, Bool, true, false, cond, ◌&&◌, List, [], ◌∷◌, ◌++◌, length, map, replicate, refl, sym, ap, ap₂, ◌∙◌, append_assoc, append-nil, arith, ◌-◌, subst}
-use Rattle.std.specs.Prelude.{◌==◌, codes, IsUtf8, if◌then◌else◌}
+use Rattle.std.specs.Prelude.{◌==◌, codes, IsUtf8, if◌then◌else◌, ℤ}
+use Rattle.std.specs.Fmt.{signed_decimal}
 use Rattle.std.specs.List.{join_with_byte}
 use Rattle.std.proofs.lemmas.Str.{IsUtf8-append}
 use Rattle.json.specs.Json as kit
@@ -14,10 +16,12 @@ use Rattle.json.specs.Word.{ends_word, word, after_number}
 use Rattle.json.proofs.Printed.Numbers.{lex-number, in_word-ended}
 use Rattle.json.proofs.Printed.Strings.{content-escape, lex-escape}
 use Rattle.json.proofs.Printed.Tokens.{tokens-print}
-use Rattle.json.proofs.Printed.Utf8.{are_ascii, IsUtf8-are_ascii, IsUtf8-separator}
+use Rattle.json.proofs.Printed.Utf8.{are_ascii, IsUtf8-are_ascii, IsUtf8-quoted}
+use Rattle.bd_value.specs.Tree.{date}
 use Rattle.bd_extjson_text.specs.Text as texts
-use Rattle.bd_extjson_text.specs.Text.{listed, quoted}
+use Rattle.bd_extjson_text.specs.Text.{listed, quoted, scalar_text}
 use Rattle.bd_extjson_text.proofs.TextLemmas.{before, to_come, to_come-all}
+use Rattle.bd_extjson.proofs.TreeJsonLemmas.{scalar_json}
 use Rattle.bd_wide_number.specs.declared.number.Number.{Number}
 use Rattle.bd_wide_substitute.specs.Substitutes.{Filler, filler_of, text, whole}
 
@@ -32,6 +36,7 @@ mutual
     array : Elements → Wide
     object : Members → Wide
     value : List ℕ → Number → Wide
+    dated : List ℕ → ℤ → Wide
 
   pub data Elements : Type 0 where
     no_elements : Elements
@@ -51,6 +56,7 @@ abbrev mutual
   text_of (array xs) = listed (element_texts xs)
   text_of (object ms) = texts.object (member_texts ms)
   text_of (value t n) = t
+  text_of (dated t z) = t
 
   pub element_texts : Elements → List (List ℕ)
   element_texts no_elements = []
@@ -75,6 +81,7 @@ abbrev mutual
   fill s (array xs) = kit.array (fill_elements s xs)
   fill s (object ms) = kit.object (fill_members s ms)
   fill s (value t n) = filler_json s
+  fill s (dated t z) = scalar_json (date z)
 
   pub fill_elements : Filler → Elements → kit.Items
   fill_elements s no_elements = kit.no_items
@@ -86,10 +93,11 @@ abbrev mutual
 
 -- ---- its tokens
 
--- A token, or the text of a number and the number.
+-- A token, the text of a number and the number, or the text of a date and its milliseconds.
 pub data Chunk : Type 0 where
   token : Token → Chunk
   valued : List ℕ → Number → Chunk
+  instant : List ℕ → ℤ → Chunk
 
 -- the tokens of JSON and of its elements and members
 abbrev mutual
@@ -102,6 +110,7 @@ abbrev mutual
   chunks (array xs) = token Token.begin_array ∷ element_chunks xs
   chunks (object ms) = token Token.begin_object ∷ member_chunks ms
   chunks (value t n) = valued t n ∷ []
+  chunks (dated t z) = instant t z ∷ []
 
   pub element_chunks : Elements → List Chunk
   element_chunks no_elements = token Token.end_array ∷ []
@@ -111,29 +120,43 @@ abbrev mutual
   member_chunks no_members = token Token.end_object ∷ []
   member_chunks (member n x ms) = token (Token.key n) ∷ (chunks x ++ member_chunks ms)
 
--- the token that a chunk becomes
+-- the token that a chunk becomes; a date becomes more than one
 abbrev pub token_in : Filler → Chunk → Token
 token_in s (token t) = t
 token_in whole (valued t n) = Token.number (48 ∷ [])
 token_in text (valued t n) = Token.string []
+token_in s (instant t z) = Token.bad
 
 -- the text of a chunk, and what it becomes
 abbrev pub chunk_text : Chunk → List ℕ
 chunk_text (token t) = token_text t
 chunk_text (valued t n) = t
+chunk_text (instant t z) = t
 
 -- what a chunk becomes
 abbrev pub filled_text : Filler → Chunk → List ℕ
 filled_text s (token t) = token_text t
 filled_text s (valued t n) = filler_of s (length t)
+filled_text s (instant t z) = scalar_text (date z)
 
 abbrev pub chunk_begins : Chunk → Bool
 chunk_begins (token t) = begins t
 chunk_begins (valued t n) = true
+chunk_begins (instant t z) = true
 
 abbrev pub chunk_ends : Chunk → Bool
 chunk_ends (token t) = ends t
 chunk_ends (valued t n) = true
+chunk_ends (instant t z) = true
+
+-- the chunks with the tokens of canonical dates
+abbrev pub spread : List Chunk → List Chunk
+spread [] = []
+spread (token t ∷ ks) = token t ∷ spread ks
+spread (valued t n ∷ ks) = valued t n ∷ spread ks
+spread (instant t z ∷ ks) =
+    token Token.begin_object ∷ token (Token.key (codes "$date")) ∷ token Token.begin_object ∷ token (Token.key (codes "$numberLong"))
+    ∷ token (Token.string (signed_decimal z)) ∷ token Token.end_object ∷ token Token.end_object ∷ spread ks
 
 -- chunks one after the other, each as this text, with commas between values
 unfoldable pub printed : (Chunk → List ℕ) → Bool → List Chunk → List ℕ
@@ -194,6 +217,7 @@ mutual
   printed-text (object ms) later rest =
       ap₂ (λ (a b : List ℕ). a ++ 123 ∷ b) (comma_before later) (printed-members ms false rest ∙ ended (member_texts ms) 125 (chunk_texts true rest))
   printed-text (value t n) later rest = rw (← comma_before later) refl
+  printed-text (dated t z) later rest = rw (← comma_before later) refl
 
   printed-elements : (xs : Elements) (later : Bool) (rest : List Chunk)
       → chunk_texts later (element_chunks xs ++ rest) ≡ to_come later 44 (element_texts xs) ++ 93 ∷ chunk_texts true rest
@@ -219,13 +243,19 @@ whole-text x = ap (chunk_texts false) (sym (append-nil (chunks x))) ∙ printed-
 
 -- ---- the chunks become the tokens of the same JSON with other values
 
-tokens-append : (s : Filler) (ks ls : List Chunk) → map (token_in s) (ks ++ ls) ≡ map (token_in s) ks ++ map (token_in s) ls
+-- the tokens that chunks become
+abbrev pub tokens_in : Filler → List Chunk → List Token
+tokens_in s ks = map (token_in s) (spread ks)
+
+tokens-append : (s : Filler) (ks ls : List Chunk) → tokens_in s (ks ++ ls) ≡ tokens_in s ks ++ tokens_in s ls
 tokens-append s [] ls = refl
-tokens-append s (k ∷ ks) ls = ap (λ (l : List Token). token_in s k ∷ l) (tokens-append s ks ls)
+tokens-append s (token t ∷ ks) ls = ap (λ (l : List Token). t ∷ l) (tokens-append s ks ls)
+tokens-append s (valued t n ∷ ks) ls = ap (λ (l : List Token). token_in s (valued t n) ∷ l) (tokens-append s ks ls)
+tokens-append s (instant t z ∷ ks) ls = ap (λ (l : List Token). json_tokens (scalar_json (date z)) ++ l) (tokens-append s ks ls)
 
 mutual
   -- the chunks become the tokens of the JSON with other values
-  pub filled-tokens : (s : Filler) (x : Wide) → map (token_in s) (chunks x) ≡ json_tokens (fill s x)
+  pub filled-tokens : (s : Filler) (x : Wide) → tokens_in s (chunks x) ≡ json_tokens (fill s x)
   filled-tokens s null = refl
   filled-tokens s (boolean b) = refl
   filled-tokens s (number ds) = refl
@@ -234,12 +264,13 @@ mutual
   filled-tokens s (object ms) = ap (λ (l : List Token). Token.begin_object ∷ l) (filled-members s ms)
   filled-tokens whole (value t n) = refl
   filled-tokens text (value t n) = refl
+  filled-tokens s (dated t z) = refl
 
-  filled-elements : (s : Filler) (xs : Elements) → map (token_in s) (element_chunks xs) ≡ items_tokens (fill_elements s xs)
+  filled-elements : (s : Filler) (xs : Elements) → tokens_in s (element_chunks xs) ≡ items_tokens (fill_elements s xs)
   filled-elements s no_elements = refl
   filled-elements s (element x xs) = tokens-append s (chunks x) (element_chunks xs) ∙ ap₂ (λ (a b : List Token). a ++ b) (filled-tokens s x) (filled-elements s xs)
 
-  filled-members : (s : Filler) (ms : Members) → map (token_in s) (member_chunks ms) ≡ members_tokens (fill_members s ms)
+  filled-members : (s : Filler) (ms : Members) → tokens_in s (member_chunks ms) ≡ members_tokens (fill_members s ms)
   filled-members s no_members = refl
   filled-members s (member n x ms) =
       ap (λ (l : List Token). Token.key n ∷ l) (tokens-append s (chunks x) (member_chunks ms) ∙ ap₂ (λ (a b : List Token). a ++ b) (filled-tokens s x) (filled-members s ms))
@@ -310,6 +341,7 @@ printed_ends s (token (Token.boolean b) ∷ ks) = refl
 printed_ends s (token Token.null ∷ ks) = refl
 printed_ends s (token Token.bad ∷ ks) = refl
 printed_ends s (valued t n ∷ ks) = refl
+printed_ends s (instant t z ∷ ks) = refl
 
 print_ends : (ts : List Token) → ends_word (print_from true ts) ≡ true
 unfolding print_from
@@ -353,16 +385,47 @@ lexed text later (valued t n ∷ ks) h =
     let rest = printed (filled_text text) true ks in
     lexed-more later (Token.string []) (filler_of text (length t)) rest (print_from true (map (token_in text) ks)) h.0 (lex-filler text t n rest (printed_ends text ks))
     (λ e. print_ends (map (token_in text) ks)) (lexed text true ks h.1)
+lexed s later (instant t z ∷ ks) h = absurd h.0
+
+-- the text of a date is that of its tokens
+date-text : (z : ℤ) (rest : List ℕ) → scalar_text (date z) ++ rest ≡ codes "{\"$date\":{\"$numberLong\":\"" ++ (kit_print.escape (signed_decimal z) ++ 34 ∷ 125 ∷ 125 ∷ rest)
+unfolding scalar_text quoted texts.escape_byte
+date-text z rest = rw (escaped-kit (signed_decimal z)) (simp append_assoc)
+
+pub date-utf8 : (z : ℤ) → IsUtf8 (signed_decimal z) → IsUtf8 (scalar_text (date z))
+unfolding kit_print.escape_byte
+date-utf8 z digits =
+    let prefix : List ℕ = codes "{\"$date\":{\"$numberLong\":" in
+    let inner : IsUtf8 (kit_print.quoted (signed_decimal z) ++ codes "}}") = IsUtf8-append (kit_print.quoted (signed_decimal z)) (codes "}}") (IsUtf8-quoted (signed_decimal z) digits) (IsUtf8-are_ascii (codes "}}") refl) in
+    let all : IsUtf8 (prefix ++ (kit_print.quoted (signed_decimal z) ++ codes "}}")) = IsUtf8-append prefix (kit_print.quoted (signed_decimal z) ++ codes "}}") (IsUtf8-are_ascii prefix refl) inner in
+    let shape : scalar_text (date z) ≡ prefix ++ (kit_print.quoted (signed_decimal z) ++ codes "}}") =
+    sym (append-nil (scalar_text (date z))) ∙ date-text z [] ∙ ap (λ (l : List ℕ). codes "{\"$date\":{\"$numberLong\":\"" ++ l) (sym (append_assoc (kit_print.escape (signed_decimal z)) (34 ∷ []) (125 ∷ 125 ∷ []))) in
+    subst IsUtf8 (sym shape) all
+
+-- so the text of chunks is that of the chunks with the tokens of dates
+printed-spread : (s : Filler) (later : Bool) (ks : List Chunk) → printed (filled_text s) later ks ≡ printed (filled_text s) later (spread ks)
+unfolding printed kit_print.escape_byte
+printed-spread s later [] = refl
+printed-spread s later (token t ∷ ks) = ap (λ (l : List ℕ). cond (later && begins t) (44 ∷ []) [] ++ (token_text t ++ l)) (printed-spread s (ends t) ks)
+printed-spread s later (valued t n ∷ ks) = ap (λ (l : List ℕ). cond (later && true) (44 ∷ []) [] ++ (filler_of s (length t) ++ l)) (printed-spread s true ks)
+printed-spread s later (instant t z ∷ ks) =
+    let rest = printed (filled_text s) true (spread ks) in
+    let digits = kit_print.escape (signed_decimal z) in
+    ap (λ (l : List ℕ). cond (later && true) (44 ∷ []) [] ++ l)
+    (ap (λ (l : List ℕ). scalar_text (date z) ++ l) (printed-spread s true ks) ∙ date-text z rest
+    ∙ ap (λ (l : List ℕ). codes "{\"$date\":{\"$numberLong\":\"" ++ l) (sym (append_assoc digits (34 ∷ []) (125 ∷ 125 ∷ rest))))
 
 -- so it has these tokens
-pub tokens-filled : (s : Filler) (ks : List Chunk) → ArePrintable (map (token_in s) ks) → tokens (printed (filled_text s) false ks) ≡ map (token_in s) ks
-tokens-filled s ks h = ap (punctuate fresh) (lexed s false ks h) ∙ tokens-print (map (token_in s) ks) h
+pub tokens-filled : (s : Filler) (ks : List Chunk) → ArePrintable (tokens_in s ks) → tokens (printed (filled_text s) false ks) ≡ tokens_in s ks
+tokens-filled s ks h =
+    ap tokens (printed-spread s false ks) ∙ ap (punctuate fresh) (lexed s false (spread ks) h) ∙ tokens-print (tokens_in s ks) h
 
 -- ---- UTF-8
 
 abbrev pub HasUtf8 : Chunk → Type 0
 HasUtf8 (token t) = IsUtf8 (token_text t)
 HasUtf8 (valued t n) = Unit {0}
+HasUtf8 (instant t z) = IsUtf8 (scalar_text (date z))
 
 abbrev pub HaveUtf8 : List Chunk → Type 0
 HaveUtf8 [] = Unit {0}
@@ -379,6 +442,7 @@ filler-utf8 text n = IsUtf8-are_ascii (34 ∷ 34 ∷ replicate (n - 2) 32) (blan
 chunk-utf8 : (s : Filler) (k : Chunk) → HasUtf8 k → IsUtf8 (filled_text s k)
 chunk-utf8 s (token t) h = h
 chunk-utf8 s (valued t n) h = filler-utf8 s (length t)
+chunk-utf8 s (instant t z) h = h
 
 comma-utf8 : (b : Bool) → IsUtf8 (cond b (44 ∷ []) [])
 comma-utf8 true = IsUtf8-are_ascii (44 ∷ []) refl

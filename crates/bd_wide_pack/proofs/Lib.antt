@@ -6,5 +6,10 @@ pub mod JsonLemmas
 pub mod ChunkLemmas
 pub mod PrintedLemmas
 pub mod NumberTextLemmas
+pub mod DateTextLemmas
+pub mod OneFormLemmas
+pub mod NumberByteLemmas
+pub mod LengthLemmas
+pub mod SameValuesLemmas
 pub mod RoundTripLemmas
 pub mod CanonicalLineLemmas

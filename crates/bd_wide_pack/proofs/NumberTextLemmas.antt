@@ -1,13 +1,16 @@
 -- The texts of doubles and decimal128 are read as these, whatever comes after them.
-use Rattle.std.proofs.Common.{◌≡◌, ◌<◌, ℕ, ◌+◌, ◌-◌, ◌^◌, Bool, true, false, cond, ◌==◌, ◌||◌, nat_eq, not, List, [], ◌∷◌, ◌++◌, length, take, refl, sym, ap, ◌∙◌, subst, inl, inr, arith, codes, append_assoc, append-nil, length-append, take_at, Option, Some, None, option_and_then, Ok, Err, Result}
-use Rattle.std.specs.{List.list_any, Char.is_ascii_digit, Cmp.Lexicographic.pointwise, Cmp.Lexicographic.bytes_decides}
+use Rattle.std.proofs.Common.{◌≡◌, ℕ, zero, suc, ℤ, pos, negsuc, ◌+◌, ◌-◌, Bool, true, false, cond, ◌==◌, ◌||◌, nat_eq, decimal, List, [], ◌∷◌, ◌++◌, length, take, drop, refl, sym, ap, ◌∙◌, subst, inl, inr, arith, codes, append_assoc, append-nil, length-append, take_at, Option, Some, None, option_and_then, Ok, Err, Result}
+use Rattle.std.specs.{List.list_any, Char.is_ascii_digit, Cmp.Lexicographic.pointwise, Cmp.Lexicographic.bytes_decides, Fmt.sign_text, Prelude.nat_lt}
+use Rattle.std.specs.Float.{binary64, float_is_finite}
+use lib.Ieee.{Float, nan, inf, fin, of_bits}
 use Rattle.std.proofs.lemmas.Bool.{eqb-true, or_parts}
-use Rattle.bd_wide_number.specs.declared.number.Number.{Number}
 use Rattle.bd_wide_number.specs.declared.number.Number.TheVariants.{Double, Decimal128}
+use Rattle.bd_wide_text.specs.Double.{IsDoubleText, IsTextOf, laid_out, padded, plain}
+use Rattle.bd_wide_text.specs.Layout.{mantissa, zeros}
 use Rattle.bd_wide_read.specs.DecimalText as decimals
 use Rattle.bd_wide_read.specs.DecimalText.{numeric_of}
 use Rattle.bd_wide_read.specs.DoubleText.{double_bits, number_bits}
-use Rattle.bd_wide_read.specs.JsonNumber.{after_digits, after_exponent, after_fraction, after_int, after_number, is_end, is_number, skip_digits, without_minus, without_sign}
+use Rattle.bd_wide_read.specs.JsonNumber.{after_digits, after_exponent, after_fraction, after_int, is_end, is_number, skip_digits, without_minus, without_sign}
 use Rattle.bd_wide_read.specs.declared.fault.TextFault.{TextFault}
 use Rattle.bd_wide_read.specs.declared.fault.TextFault.TheVariants.{BadText}
 use Rattle.bd_wide_substitute.specs.Substitutes.{after, before_brace, double_meaning, is_no_quote, is_of_number, quoted, quoted_before, wrapper_at}
@@ -34,7 +37,7 @@ no_quotes (c ∷ cs) h =
     let p = or_parts (c == 34) (list_any (λ d. d == 34) cs) h in
     rw p.0 (no_quotes cs p.1)
 
-contents_read : (contents rest : List ℕ) → IsUnquoted contents → quoted ((contents ++ 34 ∷ 125 ∷ []) ++ rest) ≡ Some (contents, 125 ∷ rest)
+pub contents_read : (contents rest : List ℕ) → IsUnquoted contents → quoted ((contents ++ 34 ∷ 125 ∷ []) ++ rest) ≡ Some (contents, 125 ∷ rest)
 contents_read contents rest h =
     let end : List ℕ = 34 ∷ 125 ∷ rest in
     let shape : (contents ++ 34 ∷ 125 ∷ []) ++ rest ≡ contents ++ end = append_assoc contents (34 ∷ 125 ∷ []) rest in
@@ -194,7 +197,68 @@ double_unquoted text bits =
     (unquoted_or text (codes "-Infinity") bits (number_bits text) (Ok 0xFFF0_0000_0000_0000) refl
     (λ h. run_unquoted text (number_run text (is_number_of text bits h)))))
 
+-- ---- a double without a wrapper
+
+-- a byte that makes a number a double
+abbrev is_point : ℕ → Bool
+is_point c = c == 46 || c == 69 || c == 101
+
+-- Such a byte is among them.
+abbrev HasPoint : List ℕ → Type 0
+HasPoint bytes = list_any is_point bytes ≡ true
+
+point_after : (xs ys : List ℕ) → HasPoint ys → HasPoint (xs ++ ys)
+point_after [] ys h = h
+point_after (x ∷ xs) ys h = elim (is_point x) as (λ b. (b || list_any is_point (xs ++ ys)) ≡ true) [ true ↦ refl | false ↦ point_after xs ys h ]
+
+plain_point : (ds : List ℕ) (n : ℕ) → HasPoint (plain ds n)
+plain_point ds n = elim (nat_lt n (length ds)) as (λ b. HasPoint (cond b (take n ds ++ 46 ∷ drop n ds) (ds ++ (zeros (n - length ds) ++ 46 ∷ 48 ∷ [])))) [
+  | true ↦ point_after (take n ds) (46 ∷ drop n ds) refl
+  | false ↦ point_after ds (zeros (n - length ds) ++ 46 ∷ 48 ∷ []) (point_after (zeros (n - length ds)) (46 ∷ 48 ∷ []) refl)
+]
+
+laid_out_point : (ds : List ℕ) (power : ℤ) → HasPoint (laid_out ds power)
+unfolding laid_out
+laid_out_point ds (pos e) = elim (nat_lt 5 e) as (λ b. HasPoint (cond b (mantissa ds ++ 69 ∷ 43 ∷ padded (decimal e)) (plain ds (e + 1)))) [
+  | true ↦ point_after (mantissa ds) (69 ∷ 43 ∷ padded (decimal e)) refl
+  | false ↦ plain_point ds (e + 1)
+]
+laid_out_point ds (negsuc k) = elim (nat_lt 3 k) as (λ b. HasPoint (cond b (mantissa ds ++ 69 ∷ 45 ∷ padded (decimal (k + 1))) (48 ∷ 46 ∷ (zeros k ++ ds)))) [
+  | true ↦ point_after (mantissa ds) (69 ∷ 45 ∷ padded (decimal (k + 1))) refl
+  | false ↦ refl
+]
+
+text_point : (x : Float) (text : List ℕ) → float_is_finite x ≡ true → IsTextOf x text → HasPoint text
+unfolding IsTextOf float_is_finite
+text_point nan text finite is = absurd cc
+text_point (inf s) text finite is = absurd cc
+text_point (fin s zero e) text finite is = subst HasPoint (sym is) (point_after (sign_text s) (codes "0.0") refl)
+text_point (fin s (suc m) e) text finite is = subst HasPoint (sym is.5) (point_after (sign_text is.0) (laid_out is.1 is.2) (laid_out_point is.1 is.2))
+
+number_or : (text word : List ℕ) (bits : ℕ) (here other : Result ℕ TextFault) → HasPoint text → list_any is_point word ≡ false → cond (pointwise nat_eq text word) here other ≡ Ok bits → other ≡ Ok bits
+number_or text word bits here other point none h =
+    elim (pointwise nat_eq text word) as (λ b. pointwise nat_eq text word ≡ b → cond b here other ≡ Ok bits → other ≡ Ok bits) [
+      | true ↦ λ e k. let f : true ≡ false = sym point ∙ ap (list_any is_point) ((bytes_decides text word).0 e) ∙ none in absurd cc
+      | false ↦ λ e k. k
+    ] refl h
+
+-- a text with such a byte is no word
+number_of_double : (text : List ℕ) (bits : ℕ) → HasPoint text → double_bits text ≡ Ok bits → number_bits text ≡ Ok bits
+number_of_double text bits point h =
+    let third : Result ℕ TextFault = cond (pointwise nat_eq text (codes "-Infinity")) (Ok 0xFFF0_0000_0000_0000) (number_bits text) in
+    let second : Result ℕ TextFault = cond (pointwise nat_eq text (codes "Infinity")) (Ok 0x7FF0_0000_0000_0000) third in
+    number_or text (codes "-Infinity") bits (Ok 0xFFF0_0000_0000_0000) (number_bits text) point refl
+    (number_or text (codes "Infinity") bits (Ok 0x7FF0_0000_0000_0000) third point refl
+    (number_or text (codes "NaN") bits (Ok 0x7FF8_0000_0000_0000) second point refl h))
+
 -- ---- the texts
+
+-- the text of a finite double, without a wrapper
+pub bare_printed : (bits : ℕ) (text : List ℕ) → float_is_finite (of_bits binary64 bits) ≡ true → IsDoubleText bits text → double_bits text ≡ Ok bits → IsTextOfNumber text (Double bits)
+bare_printed bits text finite is h rest end =
+    let point = text_point (of_bits binary64 bits) text finite is in
+    let read = number_of_double text bits point h in
+    inr ((bits, refl, (point, read)), (number_run text (is_number_of text bits read), end))
 
 -- whatever text is read as a double, in its wrapper
 pub double_printed : (bits : ℕ) (contents : List ℕ) → double_bits contents ≡ Ok bits → IsTextOfNumber (codes "{\"$numberDouble\":\"" ++ (contents ++ codes "\"}")) (Double bits)

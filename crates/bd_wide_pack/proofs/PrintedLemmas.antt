@@ -1,11 +1,11 @@
--- The canonical text of a document of all types is read as the document with other values for its numbers.
-use Rattle.std.proofs.Common.{◌≡◌, ◌≤◌, ◌<◌, ◌^◌, ne_eqb, ℕ, zero, suc, ◌+◌, ◌-◌, ℤ, pos, Bool, true, false, cond, ◌==◌, ◌||◌, nat_eq, List, [], ◌∷◌, ◌++◌, length, take, drop, refl, sym, ap, ap₂, ◌∙◌, subst, inl, inr, arith, codes, append_assoc, append-nil, take-append-drop, Option, Some, None, option_map, option_and_then, map, decimal, ◌⊎◌}
+-- The text of a document of all types is read as the document with other values for its numbers.
+use Rattle.std.proofs.Common.{◌≡◌, ◌≤◌, ◌<◌, ◌^◌, ne_eqb, ℕ, zero, suc, ◌+◌, ◌-◌, ℤ, pos, Bool, true, false, cond, ◌||◌, nat_eq, negsuc, List, [], ◌∷◌, ◌++◌, length, take, drop, refl, sym, ap, ap₂, ◌∙◌, subst, inl, inr, arith, codes, append_assoc, append-nil, take-append-drop, Option, Some, None, option_map, option_and_then, decimal, ◌⊎◌}
 use Rattle.std.specs.Prelude.{IsUtf8, Ok, nat_lt}
 use Rattle.std.specs.Char.{is_ascii_digit}
 use Rattle.std.specs.Str.Parse.{AllDigits}
 use Rattle.std.proofs.lemmas.Str.Parse.{digit_from_value}
 use borrow.Author.Tests.{le-leb}
-use Rattle.std.specs.{List.list_any, Cmp.Lexicographic.pointwise, Cmp.Lexicographic.bytes_decides, Option.option_map_or, Str.bytes_eq, Fmt.signed_decimal, Str.IsAscii, Int.Signed.mag}
+use Rattle.std.specs.{Cmp.Lexicographic.pointwise, Cmp.Lexicographic.bytes_decides, Option.option_map_or, Str.bytes_eq, Fmt.signed_decimal, Str.IsAscii, Int.Signed.mag}
 use Rattle.std.proofs.lemmas.Bool.{and_parts, or_parts, ltb-true}
 use Rattle.std.proofs.lemmas.Fmt.{IsAscii-decimal, IsAscii-signed, decimal_is_IsNumeral}
 use Rattle.std.proofs.lemmas.Str.{IsUtf8-from_ascii, is_utf8-from_IsUtf8}
@@ -17,7 +17,6 @@ use Rattle.hex.specs.Hex.{lower_digits, encode_with}
 use Rattle.hex.proofs.HexLemmas.{IsAscii-encode_with}
 use Rattle.json.specs.Json as kit
 use Rattle.json.specs.Json.{if_last}
-use Rattle.json.specs.Lex.{tokens}
 use Rattle.json.specs.Print as kit_print
 use Rattle.json.specs.Print.{ArePrintable, IsNumber, token_text}
 use Rattle.json.specs.Text.{content, plain}
@@ -25,11 +24,11 @@ use Rattle.json.specs.Token.{Token}
 use Rattle.json.specs.Tree as kit_tree
 use Rattle.json.specs.Tree.{HasNumbers, ItemsHaveNumbers, MembersHaveNumbers, json_tokens}
 use Rattle.json.specs.Word.{after_number}
-use Rattle.json.proofs.Printed.Decimals.{IsNumber-decimal}
+use Rattle.json.proofs.Printed.Decimals.{IsNumber-decimal, IsNumber-signed_decimal}
 use Rattle.json.proofs.Printed.Strings.{content-escape}
 use Rattle.json.proofs.Printed.Trees.{value-json_tokens, ArePrintable-json_tokens}
 use Rattle.json.proofs.Printed.Utf8.{IsUtf8-are_ascii, IsUtf8-boolean, IsUtf8-key, IsUtf8-quoted, are_ascii}
-use Rattle.bd_value.specs.Fits.{IsAny, ScalarFits, has_zero, zero_in_scalar}
+use Rattle.bd_value.specs.Fits.{ScalarFits, has_zero}
 use Rattle.bd_value.specs.Limits.{most_brackets, most_levels}
 use Rattle.bd_value.proofs.FitsLemmas.{fits_types}
 use Rattle.bd_value.specs.Tree as trees
@@ -42,17 +41,18 @@ use Rattle.bd_extjson_fault.specs.TextFault.{text_fault}
 use Rattle.bd_extjson_wrapper.specs.WholeNumber as numerals
 use Rattle.bd_extjson_wrapper.specs.Wrapper.{wrapper_of}
 use Rattle.bd_extjson.specs.Laws.{IsPlainFirst}
-use Rattle.bd_extjson.specs.Read.{add_field, add_item, document, json, reading, with_scope, wrap, wrap_fields, wrap_items}
-use Rattle.bd_extjson.proofs.ReadBackLemmas.{scalar_back}
+use Rattle.bd_extjson.specs.Read.{add_field, add_item, bare_number, document, json, with_scope, wrap, wrap_fields, wrap_items}
+use Rattle.bd_extjson.proofs.ReadBackLemmas.{scalar_back, whole_64-signed}
 use Rattle.bd_extjson.proofs.ReadLemmas.{json_is}
 use Rattle.bd_extjson.proofs.TreeJsonLemmas.{scalar_json}
 use Rattle.bd_wide_number.specs.declared.number.Number.{Number}
 use Rattle.bd_wide_substitute.specs.declared.wrapped.WideValue.{WideValue}
+use Rattle.bd_wide_substitute.specs.declared.wrapped.WideValue.TheVariants as values
 use Rattle.bd_wide_substitute.specs.Both.{IsRead, both, document_of}
-use Rattle.bd_wide_substitute.specs.Substitutes.{ArePieces, BeginsValue, Filler, Wrapper, after, is_of_number, last_string, named, strip, text, whole, wrapper_at, wrapper_inside}
-use Rattle.bd_wide_pack.specs.Filled.{AreFilled, AreItemsFilled, IsFilled, kept, numeric}
-use Rattle.bd_wide_pack.specs.inside.Printed.{AreFieldsPrinted, AreItemsPrinted, IsKindPrinted, IsNumberPrinted, IsPrinted, IsTextOfNumber}
-use Rattle.bd_wide_pack.proofs.JsonLemmas.{Chunk, Elements, HaveUtf8, Members, Wide, a_zero, array, boolean, chunk_text, chunks, element, element_chunks, element_texts, fill, fill_elements, fill_members, filled-tokens, filled_text, member, member_chunks, member_texts, no_elements, no_members, null, number, object, printed, printed-utf8, string, text_of, token, token_in, tokens-filled, value, valued, whole-text}
+use Rattle.bd_wide_substitute.specs.Substitutes.{ArePieces, BeginsValue, Filler, Wrapper, after, last_string, named, strip, text, whole, wrapper_at, wrapper_inside}
+use Rattle.bd_wide_pack.specs.Filled.{AreFilled, AreItemsFilled, IsFilled}
+use Rattle.bd_wide_pack.specs.inside.Printed.{AreFieldsPrinted, AreItemsPrinted, IsDatePrinted, IsKindPrinted, IsNumberPrinted, IsPrinted, IsTextOfNumber, IsTextOfValue, IsWholePrinted, bare}
+use Rattle.bd_wide_pack.proofs.JsonLemmas.{Chunk, Elements, HaveUtf8, Members, Wide, a_zero, array, boolean, chunk_text, chunks, date-utf8, dated, element, element_chunks, element_texts, fill, fill_elements, fill_members, filled-tokens, filled_text, instant, member, member_chunks, member_texts, no_elements, no_members, null, number, object, printed, printed-utf8, string, text_of, token, tokens-filled, value, valued, whole-text}
 use Rattle.bd_wide_pack.proofs.ChunkLemmas.{AreSafe, InPieces, IsWhole, chunk_numbers, in_pieces, nothing, of_date, of_decimal128, of_double, of_uuid, some_none}
 
 -- ---- the names of the wrappers of values
@@ -124,10 +124,10 @@ no_string v o w e f =
     nothing inner
 
 -- an object whose first name is that of a date, with an object in it
-dated : (inner ms : Members) (rest : List Chunk)
+opens_date : (inner ms : Members) (rest : List Chunk)
     → wrapper_at (123 ∷ printed chunk_text false (member_chunks (member (codes "$date") (object inner) ms) ++ rest)) ≡ Some (of_date.0, None)
 unfolding printed kit_print.escape_byte
-dated inner ms rest = refl
+opens_date inner ms rest = refl
 
 opens : (ms : Members) (rest : List Chunk) → OpensNoValue ms → (v : WideValue) (more : List ℕ) → BeginsValue (123 ∷ printed chunk_text false (member_chunks ms ++ rest)) v more → ⊥
 unfolding printed
@@ -140,7 +140,7 @@ opens (member n x ms) rest (inl other) v more b =
     nothing (sym none ∙ b.2)
 opens (member n x ms) rest (inr h) v more b =
     let at : List ℕ → Wide → Option Wrapper = λ m y. wrapper_at (123 ∷ printed chunk_text false (member_chunks (member m y ms) ++ rest)) in
-    no_string (b.0, None) (b.1, more) (at n x) (ap₂ at h.0 h.1.1 ∙ dated h.1.0 ms rest) b.2
+    no_string (b.0, None) (b.1, more) (at n x) (ap₂ at h.0 h.1.1 ∙ opens_date h.1.0 ms rest) b.2
 
 -- ---- what JSON needs
 
@@ -154,6 +154,7 @@ abbrev mutual
   IsGood (array xs) = AreGoodElements xs
   IsGood (object ms) = OpensNoValue ms × AreGoodMembers ms
   IsGood (value t n) = IsTextOfNumber t n
+  IsGood (dated t z) = IsTextOfValue t (values.Date z) × IsUtf8 (scalar_text (trees.date z))
 
   AreGoodElements : Elements → Type 0
   AreGoodElements no_elements = Unit {0}
@@ -175,6 +176,7 @@ mutual
   good_chunks (array xs) rest g r = let more = good_elements xs rest g r in ((tt, more.0), (IsUtf8-are_ascii (91 ∷ []) refl, more.1))
   good_chunks (object ms) rest g r = let more = good_members ms rest g.1 r in ((opens ms rest g.0, more.0), (IsUtf8-are_ascii (123 ∷ []) refl, more.1))
   good_chunks (value t n) rest g r = ((g, r.0), (tt, r.1))
+  good_chunks (dated t z) rest g r = ((g.0, r.0), (g.1, r.1))
 
   good_elements : (xs : Elements) (rest : List Chunk) → AreGoodElements xs → AreGood rest → AreGood (element_chunks xs ++ rest)
   good_elements no_elements rest g r = ((tt, r.0), (IsUtf8-are_ascii (93 ∷ []) refl, r.1))
@@ -198,6 +200,7 @@ mutual
   has_numbers s (object ms) g = have_members s ms g.1
   has_numbers whole (value t n) g = a_zero
   has_numbers text (value t n) g = tt
+  has_numbers s (dated t z) g = ((tt, tt), tt)
 
   have_elements : (s : Filler) (xs : Elements) → AreGoodElements xs → ItemsHaveNumbers (fill_elements s xs)
   have_elements s no_elements g = tt
@@ -378,6 +381,38 @@ number_read n s source k = record {
   filled = λ after. inr (record { number = k.number; is = k.is; in_whole = refl; in_text = refl; taken = refl });
 }
 
+-- whole numbers without a wrapper
+
+signed_whole : (z : ℤ) → mag z < 2 ^ 63 → IsWhole (signed_decimal z)
+signed_whole (pos n) small = digits_whole (decimal n) (decimal_is_IsNumeral n (omega arith)).0.1
+signed_whole (negsuc n) small = digits_whole (decimal (suc n)) (decimal_is_IsNumeral (suc n) (omega arith)).0.1
+
+whole_read : (n : ℕ) (s : Scalar) (source : List ℕ) → IsWholePrinted s source → IsReadAs n (leaf s) source
+whole_read n s source k =
+    let small = fits_64 k.number k.fits in
+    record {
+      json = number (signed_decimal k.number);
+      text_is = sym k.written;
+      good = (signed_whole k.number small, IsNumber-signed_decimal k.number small, utf8-signed k.number small);
+      others = λ f. leaf (bare k.number);
+      back = λ f. ap bare_number (whole_64-signed k.number k.fits);
+      shallow = λ f. omega arith;
+      filled = λ after. inl (record { scalar = bare k.number; is = k.is; in_whole = refl; in_text = refl; none = refl });
+    }
+
+-- dates
+
+date_read : (n : ℕ) (s : Scalar) (source : List ℕ) → IsDatePrinted s source → IsReadAs n (leaf s) source
+date_read n s source k = record {
+  json = dated source k.time;
+  text_is = refl;
+  good = (k.begins, date-utf8 k.time (utf8-signed k.time (fits_64 k.time k.fits)));
+  others = λ f. leaf (trees.date k.time);
+  back = λ f. scalar_back (trees.date k.time) n (fits_types (leaf (trees.date k.time)) k.fits) refl;
+  shallow = λ f. omega (arith, scalar-shallow (trees.date k.time));
+  filled = λ after. inl (record { scalar = trees.date k.time; is = k.is; in_whole = refl; in_text = refl; none = refl });
+}
+
 -- ---- values that contain values
 
 -- The first name is not a wrapper's.
@@ -414,6 +449,7 @@ numbers-append : (ks ls : List Chunk) → chunk_numbers (ks ++ ls) ≡ chunk_num
 numbers-append [] ls = refl
 numbers-append (token t ∷ ks) ls = numbers-append ks ls
 numbers-append (valued t n ∷ ks) ls = ap (λ (l : List Number). n ∷ l) (numbers-append ks ls)
+numbers-append (instant t z ∷ ks) ls = numbers-append ks ls
 
 numbers_between : (ks ls : List Chunk) (after : List Number) → chunk_numbers (ks ++ ls) ++ after ≡ chunk_numbers ks ++ (chunk_numbers ls ++ after)
 numbers_between ks ls after = ap (λ (l : List Number). l ++ after) (numbers-append ks ls) ∙ append_assoc (chunk_numbers ks) (chunk_numbers ls) after
@@ -533,7 +569,9 @@ item_read n t ts source others sources x r is =
 mutual
   pub tree_read : (n : ℕ) (t : Tree) (source : List ℕ) → IsPrinted n t source → IsReadAs n t source
   tree_read n (leaf s) source (inl k) = kind_read n s source k
-  tree_read n (leaf s) source (inr k) = number_read n s source k
+  tree_read n (leaf s) source (inr (inl k)) = number_read n s source k
+  tree_read n (leaf s) source (inr (inr (inl k))) = whole_read n s source k
+  tree_read n (leaf s) source (inr (inr (inr k))) = date_read n s source k
   tree_read zero (doc fs) source h = absurd h
   tree_read (suc n) (doc fs) source h = doc_read n fs h.1 source h.0 (fields_read n fs h.1 h.2) h.3
   tree_read zero (trees.array ts) source h = absurd h

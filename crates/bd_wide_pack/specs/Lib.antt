@@ -1,5 +1,6 @@
 pub mod Filled
 pub mod RoundTrip
+pub mod SameValues
 pub mod WideLine
 pub mod Written
 pub mod inside

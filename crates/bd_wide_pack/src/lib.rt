@@ -19,7 +19,7 @@
 //! - `canonical_line`: the bytes straight from a line as `dump` writes it.
 //! - `step`: `mix`, which writes the document with the numbers: `specs/Filled.antt`.
 //! - `laws`: two documents and numbers have one such document at most, and what `dump` prints is packed as it was:
-//!   `specs/RoundTrip.antt`.
+//!   `specs/RoundTrip.antt`; or with the same values: `specs/SameValues.antt`.
 #![tactic(auto)]
 
 mod canonical_line;
@@ -27,6 +27,6 @@ mod laws;
 mod line;
 mod step;
 
-pub use laws::{dump_then_pack, one_document};
+pub use laws::{dump_then_pack, dump_then_pack_by_value, one_document};
 pub use line::WidePacker;
 pub use step::mix;

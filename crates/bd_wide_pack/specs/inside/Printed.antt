@@ -1,11 +1,14 @@
--- The canonical text of a document of all types, whatever the texts of its numbers are: used only in proofs.
-use Rattle.std.specs.Prelude.{◌≡◌, ◌⊎◌, ℕ, zero, suc, ◌==◌, ◌||◌, List, [], ◌∷◌, false, codes, IsUtf8}
-use Rattle.std.specs.List.{list_any}
+-- The text of a document of all types, whatever the texts of its numbers and dates are: used only in proofs.
+use Rattle.std.specs.Prelude.{◌≡◌, ◌⊎◌, ℕ, zero, suc, ℤ, List, [], ◌∷◌, false, codes, if◌then◌else◌, FitsSigned, IsUtf8}
+use Rattle.std.specs.Fmt.{signed_decimal}
+use Rattle.std.specs.Int.{w64}
 use Rattle.bd_value.specs.Fits.{ScalarFits, has_zero, zero_in_scalar}
-use Rattle.bd_value.specs.Tree.{Scalar, Tree, leaf, doc, array, code_scope, Items, no_items, item, Fields, no_fields, field}
+use Rattle.bd_value.specs.Tree.{Scalar, int32, int64, date, Tree, leaf, doc, array, code_scope, Items, no_items, item, Fields, no_fields, field}
 use Rattle.bd_extjson.specs.Laws.{IsPlainFirst}
 use Rattle.bd_extjson_text.specs.Text.{listed, member, object, quoted, scalar_text}
+use Rattle.bd_extjson_wrapper.specs.WholeNumber.{fits_bits}
 use Rattle.bd_wide_number.specs.declared.number.Number.{Number}
+use Rattle.bd_wide_substitute.specs.declared.wrapped.WideValue.{WideValue}
 use Rattle.bd_wide_substitute.specs.declared.wrapped.WideValue.TheVariants as values
 use Rattle.bd_wide_substitute.specs.Substitutes.{IsBefore, after, is_of_number, value}
 use Rattle.bd_wide_pack.specs.Filled.{kept, numeric}
@@ -22,9 +25,13 @@ pub record IsKindPrinted (s : Scalar) (text : List ℕ) : Type 0 where
 abbrev pub IsEnd : List ℕ → Type 0
 IsEnd rest = after is_of_number rest ≡ rest
 
--- Whatever comes after the text, it is a piece with this number.
+-- Whatever comes after the text, it is a piece with this value.
+abbrev pub IsTextOfValue : List ℕ → WideValue → Type 0
+IsTextOfValue text v = (rest : List ℕ) → IsEnd rest → IsBefore (value text v) rest
+
+-- The same of a number.
 abbrev pub IsTextOfNumber : List ℕ → Number → Type 0
-IsTextOfNumber text number = (rest : List ℕ) → IsEnd rest → IsBefore (value text (values.Number number)) rest
+IsTextOfNumber text number = IsTextOfValue text (values.Number number)
 
 -- A number: its text is read as it.
 pub record IsNumberPrinted (s : Scalar) (text : List ℕ) : Type 0 where
@@ -32,10 +39,32 @@ pub record IsNumberPrinted (s : Scalar) (text : List ℕ) : Type 0 where
   pub is : s ≡ numeric number
   pub begins : IsTextOfNumber text number
 
+-- a whole number as it is read without a wrapper: an int32 if it fits
+abbrev pub bare : ℤ → Scalar
+bare z = if fits_bits 31 z then int32 z else int64 z
+
+-- A whole number: its text has no wrapper.
+pub record IsWholePrinted (s : Scalar) (text : List ℕ) : Type 0 where
+  pub number : ℤ
+  pub is : s ≡ kept (bare number)
+  pub fits : FitsSigned w64 number
+  pub written : text ≡ signed_decimal number
+
+-- A date: its text is read as it.
+pub record IsDatePrinted (s : Scalar) (text : List ℕ) : Type 0 where
+  pub time : ℤ
+  pub is : s ≡ date time
+  pub fits : FitsSigned w64 time
+  pub begins : IsTextOfValue text (values.Date time)
+
+-- The text of a scalar.
+abbrev pub IsScalarPrinted : Scalar → List ℕ → Type 0
+IsScalarPrinted s text = IsKindPrinted s text ⊎ (IsNumberPrinted s text ⊎ (IsWholePrinted s text ⊎ IsDatePrinted s text))
+
 -- The text of a value of at most `depth_left` levels.
 abbrev mutual
   pub IsPrinted : ℕ → Tree → List ℕ → Type 0
-  IsPrinted depth_left (leaf s) text = IsKindPrinted s text ⊎ IsNumberPrinted s text
+  IsPrinted depth_left (leaf s) text = IsScalarPrinted s text
   IsPrinted zero t text = ⊥
   IsPrinted (suc depth_left) (doc fs) text = IsPlainFirst fs × (members : List (List ℕ)) × AreFieldsPrinted depth_left fs members
       × (text ≡ object members)

@@ -1,4 +1,4 @@
-use Rattle.std.proofs.Common.{rules, sym, ap, ◌∷◌, ◌++◌, ◌≡◌, ◌∙◌, append_assoc}
+use Rattle.std.proofs.Common.{rules, ◌++◌, ◌≡◌, append_assoc}
 use Rattle.bd_bson_view.specs.Spelling.{long}
 use Rattle.bd_wide_number.specs.declared.number.Number.TheVariants.{Double, Decimal128}
 use Rattle.bd_wide_pack.specs.Filled.{numeric}
