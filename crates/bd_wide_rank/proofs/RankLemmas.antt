@@ -174,6 +174,7 @@ module _ {E : Type 0} (f : E → ℤ) where
     distinct xs (tail_rises x xs up),
   )
 
+-- the rank among two lists is the sum of the ranks in each
 pub rank_append : (vs ws : List ℤ) (w : ℤ) → rank (vs ++ ws) w ≡ rank vs w + rank ws w
 rank_append [] ws w = let e : rank ws w ≡ 0 + rank ws w = omega arith in e
 rank_append (v ∷ vs) ws w = ap (λ (n : ℕ). weight (int_cmp v w) + n) (rank_append vs ws w) ∙ (let e : weight (int_cmp v w) + (rank vs w + rank ws w) ≡ weight (int_cmp v w) + rank vs w + rank ws w = omega arith in e)
