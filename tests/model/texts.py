@@ -76,6 +76,10 @@ class Node(NamedTuple):
     of: object = None
 
 
+class Escaped(str):
+    """A text of JSON that is written with an escape."""
+
+
 class Reader:
     """Goes over a text as JSON. Its places are characters."""
 
@@ -140,17 +144,18 @@ class Reader:
 
     def string(self) -> str:
         self.take('"')
-        parts = []
+        parts, kind = [], str
         while self.peek() != '"':
             if self.peek() == "\\":
                 parts.append(self.escape())
+                kind = Escaped
             elif self.peek() < " ":
                 raise self.stop()
             else:
                 parts.append(self.peek())
                 self.at += 1
         self.at += 1
-        return "".join(parts)
+        return kind("".join(parts))
 
     def escape(self) -> str:
         start = self.at
@@ -309,6 +314,11 @@ def wrapped(node: Node, level: int, is_wide: bool) -> Value:
     is_form = name == "$uuid" or (name == "$date" and inside.kind == "string")
     if (not is_wide and (is_number or is_form)) or (name == "$binary" and inside.kind == "string"):
         raise TextFault(NOT_IN_PROFILE, node.at)
+    # The wrapper of a double, a decimal128, a date as text and a UUID is read as it is written: no part of one has an escape.
+    if (is_number or is_form) and isinstance(name, Escaped):
+        raise TextFault(NOT_IN_PROFILE, node.at)
+    if (is_number or is_form) and isinstance(inside.of, Escaped):
+        raise TextFault(BAD_WRAPPER, node.at)
     if name in ("$code", "$scope"):
         return code(node, level, is_wide)
     if is_number and len(node.of) == 1 and inside.kind == "string":
