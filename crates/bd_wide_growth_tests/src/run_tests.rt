@@ -11,9 +11,13 @@ use bd_wide_service::serve::serve;
 use std::alloc::Global;
 
 /// Whether a run wrote all of this to standard output and standard error; or why not.
-fn outcome(status: Status, written: [&[u8]; 2], wanted: [&[u8]; 2]) -> Result<bool, RowFault> {
-    let [printed, reported] = written;
-    let [lines, counts] = wanted;
+fn outcome(
+    status: Status,
+    printed: &[u8],
+    reported: &[u8],
+    lines: &[u8],
+    counts: &[u8],
+) -> Result<bool, RowFault> {
     if status == Status::Done {
         return Ok(printed == lines && reported == counts);
     }
@@ -24,11 +28,12 @@ fn outcome(status: Status, written: [&[u8]; 2], wanted: [&[u8]; 2]) -> Result<bo
     Err(RowFault::Otherwise)
 }
 
-/// What `find` prints and reports. The token was made by another program, of the copy with the codes 3, 5 and 1.
-const FOUND: [&[u8]; 2] = [
-    b"{\"a\":2}\n{\"a\":1.5}\n",
-    b"2 documents, end, token AQIAAAAAAAAAAAAAAH3AgLsJ+pkVsxPsrAr3aMj+HcfZKH/DztDNohokPBdZ\n",
-];
+/// What `find` prints.
+const FOUND: &[u8] = b"{\"a\":2}\n{\"a\":1.5}\n";
+
+/// What it reports. The token was made by another program, of the copy with the codes 3, 5 and 1.
+const COUNTS: &[u8] =
+    b"2 documents, end, token AQIAAAAAAAAAAAAAAH3AgLsJ+pkVsxPsrAr3aMj+HcfZKH/DztDNohokPBdZ\n";
 
 /// The greatest numbers first of those that are at most 2.
 fn finds(alloc: Global) -> Result<bool, RowFault> {
@@ -64,7 +69,7 @@ fn finds(alloc: Global) -> Result<bool, RowFault> {
         &mut out,
         &mut err,
     );
-    outcome(status, [out.bytes(), err.bytes()], FOUND)
+    outcome(status, out.bytes(), err.bytes(), FOUND, COUNTS)
 }
 
 /// Commands over the three numbers, of which the last names some of the types of numbers.
@@ -101,7 +106,7 @@ fn serves(alloc: Global) -> Result<bool, RowFault> {
         &mut out,
         &mut err,
     );
-    outcome(status, [out.bytes(), err.bytes()], [REPLIES, b""])
+    outcome(status, out.bytes(), err.bytes(), REPLIES, b"")
 }
 
 #[test]
