@@ -4,6 +4,7 @@ import gzip
 import json
 import os
 import signal
+import shutil
 import subprocess
 import sys
 import threading
@@ -69,7 +70,8 @@ class Serving(Room):
         """They are as the shell gave them, also of a file that is packed: nothing is ignored that was not."""
         packed = self.file(gzip.compress(PEOPLE.read_bytes()), "dump.bson.gz")
         program = self.wide("grep SigIgn /proc/self/status")
-        wanted = subprocess.run(["grep", "SigIgn", "/proc/self/status"], stdout=subprocess.PIPE, text=True).stdout
+        # By its path, as Python is started: for such a program Python 3.13 has the system ignore two signals of the C library.
+        wanted = subprocess.run([shutil.which("grep"), "SigIgn", "/proc/self/status"], stdout=subprocess.PIPE, text=True).stdout
         for path in (PEOPLE, packed):
             self.assertEqual(run_package("--program", program, "serve", str(path)).stdout, wanted)
 

@@ -52,6 +52,12 @@ def told_by_fork(ask: Callable[[], object]) -> str:
     return told
 
 
+def run_and_leave_open(code: str) -> "subprocess.CompletedProcess[str]":
+    """A run of Python that ends while a session is open, of which Python warns else."""
+    words = [sys.executable, "-W", "ignore::ResourceWarning", "-c", code]
+    return subprocess.run(words, env=environment(), capture_output=True, text=True, timeout=PATIENCE)
+
+
 class Forks(Room):
     """A session that another process opened is refused by name, and stays as it is."""
 
@@ -96,7 +102,7 @@ if not os.fork():
 os.wait()
 print(1 + len(list(cursor)), 1 + len(list(answer)), session.count_documents())
 """
-        ran = subprocess.run([sys.executable, "-c", code], env=environment(), capture_output=True, text=True, timeout=PATIENCE)
+        ran = run_and_leave_open(code)
         self.assertEqual((ran.stdout, ran.stderr), ("500 500 500\n", ""))
 
     def test_processes_that_open_their_own(self) -> None:
@@ -262,7 +268,7 @@ except KeyboardInterrupt:
 found += [it["_id"] for it in cursor]
 print(found == [*range(500)])
 """
-        ran = subprocess.run([sys.executable, "-c", code], env=environment(), capture_output=True, text=True, timeout=PATIENCE)
+        ran = run_and_leave_open(code)
         self.assertEqual((ran.stdout, ran.stderr), ("True\n", ""))
 
 

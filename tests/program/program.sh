@@ -2,6 +2,7 @@
 # Tests of the built program, ./bsonfind, over pipes and devices, with little memory, and as make installs it: standard output, standard
 # error and exit statuses. What one run says of files and arguments is in tests/rows. A line for each test; the last line is
 # 'N passed, M failed', and the status is 0 where nothing failed.
+# shellcheck disable=SC2016 # $numberInt and others are names
 set -u
 cd "$(dirname "$0")/../.." || exit 1
 root=$PWD
@@ -125,7 +126,6 @@ damage() {
 	printf "$2" | dd of=damaged.bson bs=1 seek="$1" conv=notrunc 2>/dev/null
 }
 
-# shellcheck disable=SC2016 # $numberInt and others are names
 int32='{"a":{"$numberInt":"1"}}'
 printf '\014\000\000\000\020a\000\001\000\000\000\000' >int32.bson
 printf '\014\000\000\000\002s\000\000\000\000\000\000' >bad.bson
@@ -191,7 +191,6 @@ echo '{"find":{}}' >&3
 await_lines live 1
 cp live out
 let_go
-# shellcheck disable=SC2016
 first='{"ok":true,"cursor":{"$numberLong":"1"}}'
 expect 'a reply before the program waits for more' 0 "$first" ''
 
@@ -316,7 +315,6 @@ expect 'a large check in little memory' 0 '' '819200 documents, 0 faulty'
 } | (ulimit -v 49152 && run serve five.bson)
 tail -n 3 out >ends
 mv ends out
-# shellcheck disable=SC2016
 expect 'many long commands in little memory' 0 '{"ok":true,"cursor":{"$numberLong":"64"}}
 {"ok":false,"layer":"session","number":{"$numberInt":"5"},"text":"too many cursors"}
 {"ok":true}' ''

@@ -258,8 +258,8 @@ def main() -> int:
     requests.Request.of = classmethod(raw_of)
     with tempfile.TemporaryDirectory() as room:
         asking = Asking(random.Random(SEED), room)
-        for number in range(DUMPS):
-            asking.ask_dump(number)
+        for dump in range(DUMPS):
+            asking.ask_dump(dump)
     print(f"refused {asking.refused} times for types of numbers")
     print(f"{asking.tests.passed} passed, {asking.tests.failed} failed")
     return int(asking.tests.failed > 0)

@@ -15,8 +15,7 @@ from .._dumps.runs import Checking
 from .._dumps.sources import Source, Unwatched, Watch
 from .._errors import ArgumentError, BsonfindError, is_finding, why
 from .._run.processes import Group, processors, wide_program
-from .backups import Dump, dumps_of, is_inside, namespace_of, place_of, read_log, text_lines
-from .metadata import fault_of_listed, fault_of_metadata
+from .backups import Dump, dumps_of, fault_of_listed, fault_of_metadata, is_inside, namespace_of, place_of, read_log, text_lines
 from .reports import MOST_FAULTS, Audit, Noting, Report
 from .split import split
 

@@ -12,8 +12,7 @@ from .._dumps.archive_frames import Namespace
 from .._dumps.files import INSIDE, member_of, name_in
 from .._dumps.sources import Watch
 from .audit import audit_dumps
-from .backups import collection_of, dumps_of, metadata_below, namespace_of, stem_wanted
-from .metadata import read_metadata, stem_of_file
+from .backups import collection_of, dumps_of, metadata_below, namespace_of, read_metadata, stem_of_file, stem_wanted
 from .reports import Audit, Report
 
 COLUMNS = ("database", "collection", "kind", "documents", "bytes", "average", "indexes", "options")

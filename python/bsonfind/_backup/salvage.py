@@ -15,9 +15,8 @@ from .._dumps.sources import Source
 from .._errors import ArgumentError, BsonfindError, DumpError, FileError, why
 from .._faults import Fault
 from .._run.processes import Dump, Group, Run, processors, wide_program
-from .backups import Dump as Found, dumps_below
+from .backups import Dump as Found, dumps_below, read_metadata, stem_of_file
 from .beginnings import Beginnings, Window
-from .metadata import read_metadata, stem_of_file
 
 # The bytes that are checked by one run, at first and after damage, and at most; and the documents at most.
 _FIRST, _MOST, _MOST_DOCUMENTS = 1 << 16, 1 << 22, 100_000

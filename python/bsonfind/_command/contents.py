@@ -42,7 +42,9 @@ def print_grep(words: argparse.Namespace, text: str, names: list[str]) -> int:
     wanted = _wanted(words, text)
     dumps = dumps_of(names)
     items = grep_dumps(dumps, wanted, words.jobs or processors(), words.program, lambda files, size: Progress(console, files, size, _PATIENCE))
-    printing = (_Counts if words.count else _Lines if words.json else _Rows)(console)
+    table = Table(console, ("file", "documents", "fields") if words.count else ("file", "_id", "path", "value"))
+    # Of each dump how many documents and fields have it, if they are counted.
+    counts: dict[str, tuple[int, int]] = {}
     documents, status = 0, GOOD
     found: set[str] = set()
     failed: set[str] = set()
@@ -53,10 +55,16 @@ def print_grep(words: argparse.Namespace, text: str, names: list[str]) -> int:
                 failed.add(item.file)
                 status = max(status, FAULTY if item.is_fault else FAILED)
             elif item.documents:
-                printing.print(item)
                 documents += item.documents
                 found.add(item.file)
-    printing.end()
+                if words.count:
+                    before = counts.get(item.name, (0, 0))
+                    counts[item.name] = before[0] + item.documents, before[1] + item.fields
+                elif words.json:
+                    console.documents(_lines(item))
+                else:
+                    table.print([(item.name, it.id or "", it.path, it.value or "") for it in item.rows])
+    table.print((name, str(documents), str(fields)) for name, (documents, fields) in counts.items())
     console.note(f"{documents} documents in {len(found)} of {len(dumps)} files" + (f", {len(failed)} not searched in full" if failed else ""))
     return status
 
@@ -80,43 +88,8 @@ def _wanted(words: argparse.Namespace, text: str) -> Wanted:
     return Wanted(text, True, words.ignore_case, seconds=words.timeout, with_values=not words.count)
 
 
-class _Rows:
-    """A row for each field."""
-
-    _COLUMNS: tuple[str, ...] = ("file", "_id", "path", "value")
-
-    def __init__(self, console: Console) -> None:
-        self._console, self._table = console, Table(console, self._COLUMNS)
-
-    def print(self, hits: Hits) -> None:
-        self._table.print([(hits.name, it.id or "", it.path, it.value or "") for it in hits.rows])
-
-    def end(self) -> None:
-        """Prints what is known at the end alone."""
-
-
-class _Lines(_Rows):
+def _lines(hits: Hits) -> list[bytes]:
     """A line of JSON for each field."""
-
-    def print(self, hits: Hits) -> None:
-        name = json.dumps(hits.name)
-        lines = (f'{{"file":{name},"id":{it.id or "null"},"path":{json.dumps(it.path)},"value":{it.value or "null"}}}\n' for it in hits.rows)
-        self._console.documents([line.encode() for line in lines])
-
-
-class _Counts(_Rows):
-    """How many documents and fields of each dump have it."""
-
-    _COLUMNS = ("file", "documents", "fields")
-
-    def __init__(self, console: Console) -> None:
-        super().__init__(console)
-        self._counts: dict[str, tuple[int, int]] = {}
-
-    def print(self, hits: Hits) -> None:
-        documents, fields = self._counts.get(hits.name, (0, 0))
-        self._counts[hits.name] = documents + hits.documents, fields + hits.fields
-
-    def end(self) -> None:
-        """Prints the counts, in the order in which the dumps came."""
-        self._table.print((name, str(documents), str(fields)) for name, (documents, fields) in self._counts.items())
+    name = json.dumps(hits.name)
+    lines = (f'{{"file":{name},"id":{it.id or "null"},"path":{json.dumps(it.path)},"value":{it.value or "null"}}}\n' for it in hits.rows)
+    return [line.encode() for line in lines]

@@ -9,8 +9,6 @@ from .._errors import BsonfindError, CommandError, DumpError, ProgramError
 from .._faults import read_fault
 
 _PREFIX = re.compile("bsonfind: |bsonwide: ")
-# A line of the loader, such as for LD_PRELOAD, which is before the program's own.
-_LOADER = re.compile("^ERROR: ld\\.so: .*\n", re.MULTILINE)
 # The texts of each layer of refusals, from number 1 on; words that only a session prints are left out.
 _WORDS = {
     "json": (
@@ -24,11 +22,6 @@ _WORDS = {
 _SESSION = {"not a sort": 1, "not a token": 7, "token of another dump or request": 8, "token place past the dump": 9}
 _REFUSAL = re.compile(r'(query|sort|index|token): (?:byte (\d+): |place (".*"): )?(.+)')
 _OF_THE_DUMP = ("cannot open", "cannot read", "input too long", "too many reads")
-
-
-def own_text(told: str) -> str:
-    """What a program says itself."""
-    return _LOADER.sub("", told)
 
 
 def error_of(status: int, told: str) -> BsonfindError:

@@ -12,7 +12,7 @@ from contextlib import AbstractContextManager, ExitStack, contextmanager
 from typing import IO, Any, BinaryIO, Iterable, Iterator, NamedTuple, Sequence
 
 from .._errors import ArgumentError, BsonfindError, OtherProcessError, ProgramError, TimedOutError, why
-from .messages import error_of, own_text
+from .messages import error_of
 from .program import located, wide_beside
 
 # As many bytes as a pipe of Linux holds.
@@ -20,6 +20,8 @@ _BUFFER = 1 << 16
 # How many seconds a source of bytes that stalls is waited for, once no one reads them.
 _PATIENCE = 1.0
 _VERSION = re.compile(r"bsonwide (\S+)\n")
+# A line of the loader, such as for LD_PRELOAD, which is before the messages of the program.
+_LOADER = re.compile("^ERROR: ld\\.so: .*\n", re.MULTILINE)
 # The programs of which it is known that they have the version of the package.
 _known: set[str] = set()
 _lock = threading.Lock()
@@ -203,7 +205,7 @@ class Run(AbstractContextManager["Run"]):
     def messages(self) -> str:
         """What the program says on standard error, once the run has ended."""
         self._stderr.seek(0)
-        return own_text(self._stderr.read().decode(errors="replace"))
+        return _LOADER.sub("", self._stderr.read().decode(errors="replace"))
 
     def finish(self, line: re.Pattern[str]) -> re.Match[str]:
         """Waits for the end, and gives the line with the counts; raises the error of a run that did not end well.
