@@ -8,7 +8,6 @@ import tempfile
 from collections import Counter
 from contextlib import AbstractContextManager
 from hashlib import blake2b
-from itertools import groupby
 from typing import IO, Callable, Iterable, Iterator, NamedTuple, Sequence
 
 from .._dumps.elements import value_at
@@ -139,16 +138,25 @@ def _differences(lines: Iterator[bytes], path: str, counts: Counter[str]) -> Ite
 
 def _by_key(lines: Iterator[bytes]) -> Iterator[tuple[bytes, int, int, int]]:
     """Each key of sorted lines, how many documents of it each dump has, and how many are the same: a line has key, digest and dump."""
-    for key, alike in groupby(lines, lambda line: line[: line.index(b"\t")]):
-        first = second = same = 0
-        for _, equal in groupby(alike, lambda line: line[:-2]):
-            one = other = 0
-            for line in equal:
-                if line.endswith(b"0\n"):
-                    one += 1
-                else:
-                    other += 1
+    key, document = b"", b""
+    first = second = same = one = other = 0
+    for line in lines:
+        found = line[:-2]
+        if found != document:
             first, second, same = first + one, second + other, same + min(one, other)
+            one = other = 0
+            document, found = found, found[: found.index(b"\t")]
+            if found != key:
+                if first or second:
+                    yield key, first, second, same
+                key = found
+                first = second = same = 0
+        if line.endswith(b"0\n"):
+            one += 1
+        else:
+            other += 1
+    first, second, same = first + one, second + other, same + min(one, other)
+    if first or second:
         yield key, first, second, same
 
 
