@@ -10,6 +10,7 @@ from typing import Any, Callable, Sequence, TypeVar
 from .._arguments import File, name_of_file
 from .._dumps.originals import Original, kept
 from .._dumps.sources import Source
+from .._errors import SessionEndedError
 from .._run.processes import Dump, Group, check_owner
 from .connections import Connection, NotTaken
 from .plans import Plan, Work, now
@@ -37,6 +38,7 @@ class Questions(AbstractContextManager["Questions"]):
             with group.within(timeout):
                 self._connections.append(self._first())
         except BaseException:
+            group.end(SessionEndedError("the dump was not read"))
             self.close()
             raise
 
