@@ -23,6 +23,7 @@ sys.path.insert(0, str(Path(__file__).resolve().parents[1]))
 
 from model.answers import digest, token_of
 from model.sessions import request_text
+from model.texts import TEXT_WORDS, TextFault, advice
 from support import PROGRAM, ROOT, commands_of
 
 ROWS = ROOT / "tests/rows"
@@ -306,13 +307,21 @@ def cut(program: Program, row: Members) -> int:
     return count
 
 
+def advised(line: bytes, fault: str) -> str:
+    """What `bsonwide` says after the fault of a line, by the model: what to write instead."""
+    found = re.fullmatch(r"byte (\d+): (.*)", fault)
+    more = advice(line, TextFault(TEXT_WORDS.index(found[2]) + 1, int(found[1]))) if found else None
+    return f"; {more}" if more else ""
+
+
 def pack_line(program: Program, line: bytes, row: Members) -> None:
     """Wants what `pack` of a program makes of a line, and what its dump prints of that."""
     name = program.path.name.partition(".")[0]
     ran = program.run("pack", "-", given=line + b"\n")
     if "fault" in row:
         fault = str(row.get("fault"))
-        told = f"{name}: line 1{', ' if fault.startswith('byte ') else ': '}{fault}\n0 objects packed\n"
+        more = advised(line, fault) if name == "bsonwide" else ""
+        told = f"{name}: line 1{', ' if fault.startswith('byte ') else ': '}{fault}{more}\n0 objects packed\n"
         want((ran.returncode, ran.stdout, ran.stderr.decode()), (1, b"", told), f"pack of {name}")
         return
     want((ran.returncode, ran.stderr), (0, b"1 objects packed\n"), f"the end of pack of {name}")
