@@ -11,7 +11,7 @@ from model.answers import (
     FILTER_WORDS, MOST, BadFilter, Dump, Index, Request, Token, Value, bounds_of, check_filter, encoded, is_whole, matches, obj, path_fault,
     read_token, sort_pairs, written,
 )  # fmt: skip
-from model.texts import NOT_A_DOCUMENT, TEXT_WORDS, TextFault, read_document
+from model.texts import NOT_A_DOCUMENT, TEXT_WORDS, TextFault, advice, read_document
 
 INDEXES, CURSORS = 16, 64
 GREATEST = (1 << 64) - 1
@@ -348,5 +348,7 @@ def packed(text: bytes, program: str = "bsonfind") -> tuple[int, bytes, str]:
             documents.append(encoded(read_document(line, program == "bsonwide")))
         except TextFault as fault:
             byte = "" if fault.number == NOT_A_DOCUMENT else f", byte {fault.at}"
-            return 1, b"".join(documents), f"{program}: line {number}{byte}: {TEXT_WORDS[fault.number - 1]}\n{len(documents)} objects packed\n"
+            more = advice(line, fault) if program == "bsonwide" else None
+            told = f"line {number}{byte}: {TEXT_WORDS[fault.number - 1]}{f'; {more}' if more else ''}"
+            return 1, b"".join(documents), f"{program}: {told}\n{len(documents)} objects packed\n"
     return 0, b"".join(documents), f"{len(documents)} objects packed\n"
