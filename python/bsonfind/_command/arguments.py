@@ -67,13 +67,15 @@ class _Parser(argparse.ArgumentParser):
         print_text(self.format_help(), end="")
 
 
-def parser(name: str) -> argparse.ArgumentParser:
-    """The parser of the arguments of the command line that begins with this name."""
+def parser(name: str, words: Sequence[str] | None = None) -> argparse.ArgumentParser:
+    """The parser of the arguments of the command line that begins with this name. Where its words are given only their commands have arguments."""
     main = _Parser(prog=name, epilog=_EPILOG)
     _add_common(main, "bsonfind")
     commands = main.add_subparsers(required=True, metavar="COMMAND")
     for word, about, epilog, arguments in _COMMANDS:
         command = commands.add_parser(word, help=about[0].lower() + about[1:-1], description=about, epilog=epilog, usage=_USAGES.get(word))
+        if words is not None and word not in words:
+            continue
         _add_common(command, argparse.SUPPRESS)
         command.set_defaults(command=word)
         for it in arguments:

@@ -24,7 +24,7 @@ def run_command(words: list[str], name: str) -> int:
     try:
         _prepare_streams()
         try:
-            known = parser(name).parse_args(words)
+            known = parser(name, words).parse_args(words)
             failed = FAULTY if known.command in AS_THE_PROGRAM else FAILED
             need_output()
             status = run(known)
