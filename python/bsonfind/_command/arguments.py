@@ -46,8 +46,10 @@ class _Help(argparse.HelpFormatter):
 class _Parser(argparse.ArgumentParser):
     """A parser that takes no shortened option, and whose help is an error if it cannot be written."""
 
-    def __init__(self, **how: object) -> None:
-        super().__init__(allow_abbrev=False, formatter_class=_Help, **how)  # type: ignore[arg-type]
+    def __init__(self, is_named: bool = True, **how: object) -> None:
+        """One of a command that is not named parses nothing, so it is not made."""
+        if is_named:
+            super().__init__(allow_abbrev=False, formatter_class=_Help, **how)  # type: ignore[arg-type]
 
     def parse_known_args(self, args: Any = None, namespace: Any = None) -> Any:
         """Takes names of files after options too, which else are not known, and each option once, as the program does."""
@@ -73,8 +75,10 @@ def parser(name: str, words: Sequence[str] | None = None) -> argparse.ArgumentPa
     _add_common(main, "bsonfind")
     commands = main.add_subparsers(required=True, metavar="COMMAND")
     for word, about, epilog, arguments in _COMMANDS:
-        command = commands.add_parser(word, help=about[0].lower() + about[1:-1], description=about, epilog=epilog, usage=_USAGES.get(word))
-        if words is not None and word not in words:
+        is_named = words is None or word in words
+        about_it: dict[str, Any] = {"description": about, "epilog": epilog, "usage": _USAGES.get(word), "is_named": is_named}
+        command = commands.add_parser(word, help=about[0].lower() + about[1:-1], **about_it)
+        if not is_named:
             continue
         _add_common(command, argparse.SUPPRESS)
         command.set_defaults(command=word)
