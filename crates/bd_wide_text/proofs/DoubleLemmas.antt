@@ -95,7 +95,7 @@ not_zero : (s t : Bool) (m : ℕ) (e : ℤ) (a c : ℕ) → 0 < c → a ≡ 0 �
 not_zero s t m e a c some none is =
     let zero_is : fin s 0 (pos 0) ≡ fin t (suc m) e = sym (round_zero s c some) ∙ ap (λ n. round binary64 s n c) (sym none) ∙ is in cc
 
-by_digits : (x : Float) (s : Bool) (p : Parts) (new : List ℕ) → nearest binary64 s p ≡ x → IsLaidOutAnew p new → IsSized x → IsTextOf x (sign_text s ++ new)
+pub by_digits : (x : Float) (s : Bool) (p : Parts) (new : List ℕ) → nearest binary64 s p ≡ x → IsLaidOutAnew p new → IsSized x → IsTextOf x (sign_text s ++ new)
 unfolding IsTextOf
 by_digits nan s p new is laid h = absurd h
 by_digits (inf t) s p new is laid h = absurd h
@@ -109,12 +109,12 @@ first_digit p plain =
     let r = digit_at p.whole 0 plain.well_formed.whole_digits plain.whole in
     rw (get_or_append_left p.whole back 0 0 plain.whole) (ne_eqb (get_or p.whole 0 0) 45 (λ e. omega (arith, r.0)))
 
-parts_of : (p : Parts) (size : List ℕ) → size ≡ text_of p → IsPlain p → IsLaidOut 16 4 p → length size ≤ 25 → AreParts size (scan size)
+pub parts_of : (p : Parts) (size : List ℕ) → size ≡ text_of p → IsPlain p → IsLaidOut 16 4 p → length size ≤ 25 → AreParts size (scan size)
 parts_of p size is plain layout short =
     let read : scan size ≡ p = ap scan is ∙ scan_numeral-text_of p plain.well_formed in
     subst (AreParts size) (sym read) (record { text = is; plain = plain; layout = layout; short = short })
 
-nearest_of : (p : Parts) (s : Bool) (x : Float) (size : List ℕ) → size ≡ text_of p → IsPlain p → parse_float binary64 (sign_text s ++ size) ≡ Some x → nearest binary64 s (scan size) ≡ x
+pub nearest_of : (p : Parts) (s : Bool) (x : Float) (size : List ℕ) → size ≡ text_of p → IsPlain p → parse_float binary64 (sign_text s ++ size) ≡ Some x → nearest binary64 s (scan size) ≡ x
 nearest_of p s x size is plain parses =
     let read : scan size ≡ p = ap scan is ∙ scan_numeral-text_of p plain.well_formed in
     let whole : Some (nearest binary64 s p) ≡ Some x = sym (parse_float-text_of binary64 s p plain.well_formed plain.whole) ∙ ap (λ t. parse_float binary64 (sign_text s ++ t)) (sym is) ∙ parses in

@@ -1,7 +1,7 @@
 -- A number laid out again is the same number.
 use Rattle.std.proofs.Common.{◌≡◌, ◌≢◌, ◌<◌, ◌≤◌, ℕ, zero, suc, ◌+◌, ◌-◌, ◌*◌, ◌/◌, ◌%◌, ◌^◌, ◌==◌, Bool, true, false, cond, List, [], ◌∷◌, ◌++◌, length, take, drop, get_or, refl, sym, ap, ◌∙◌, subst, inl, inr, arith, append-nil, append_assoc, length-append, length-take, length-drop, take-append-drop, take_at, drop_at, codes, pos, negsuc, ltb, eq-eqb, ne_eqb}
 use Rattle.std.proofs.lemmas.Bool.{cases_lt}
-use Rattle.std.proofs.lemmas.Fmt.{decimal_is_IsNumeral_wide}
+use Rattle.std.proofs.lemmas.Fmt.{decimal_is_IsNumeral_wide, length-decimal-le}
 use Rattle.std.proofs.lemmas.List.{length-replicate, get_or_append_left, get_or-append_right, get_or-take, get_or-drop}
 use Rattle.std.proofs.lemmas.Str.Parse.{digit_at}
 use Rattle.std.proofs.Math.Nat.{pow-suc, mul-one, eq-zero-or-pos}
@@ -66,14 +66,14 @@ exponent_inside negative [] = omega arith
 exponent_inside true (d ∷ ds) = omega arith
 exponent_inside false (d ∷ ds) = omega arith
 
-short_exponent : (size : List ℕ) (p : Parts) → AreParts size p → length p.exponent ≤ 25
+pub short_exponent : (size : List ℕ) (p : Parts) → AreParts size p → length p.exponent ≤ 25
 short_exponent size p parts =
     let back = exponent_text p.exponent_negative p.exponent in
     let middle = cond p.point (46 ∷ p.fraction) [] in
     omega (arith, parts.short, ap (λ xs. length xs) parts.text, length-append p.whole (middle ++ back), length-append middle back, exponent_inside p.exponent_negative p.exponent)
 
 -- the text has a point, or an exponent
-few_parts : (size : List ℕ) (p : Parts) → AreParts size p → length p.whole + length p.fraction ≤ 24
+pub few_parts : (size : List ℕ) (p : Parts) → AreParts size p → length p.whole + length p.fraction ≤ 24
 few_parts size p parts = by p.point refl
   where
     sized : (middle : List ℕ) → cond p.point (46 ∷ p.fraction) [] ≡ middle → length p.whole + (length middle + length (exponent_text p.exponent_negative p.exponent)) ≤ 25
@@ -86,6 +86,24 @@ few_parts size p parts = by p.point refl
     by true is = omega (arith, sized (46 ∷ p.fraction) (rw is refl))
     by false is =
         omega (arith, sized [] (rw is refl), exponent_inside p.exponent_negative p.exponent, parts.plain.marked is, ap (λ xs. length xs) (parts.plain.well_formed.no_point is))
+
+-- the digits and the exponent
+pub few_all : (size : List ℕ) (p : Parts) → AreParts size p → length p.whole + length p.fraction + length p.exponent ≤ 25
+few_all size p parts = by p.point refl
+  where
+    sized : (middle : List ℕ) → cond p.point (46 ∷ p.fraction) [] ≡ middle → length p.whole + (length middle + length p.exponent) ≤ 25
+    sized middle is =
+        let back = exponent_text p.exponent_negative p.exponent in
+        let between = cond p.point (46 ∷ p.fraction) [] in
+        omega (arith, parts.short, ap (λ xs. length xs) parts.text, length-append p.whole (between ++ back), length-append between back, ap (λ xs. length xs) is, exponent_inside p.exponent_negative p.exponent)
+
+    by : (point : Bool) → p.point ≡ point → length p.whole + length p.fraction + length p.exponent ≤ 25
+    by true is = omega (arith, sized (46 ∷ p.fraction) (rw is refl))
+    by false is = omega (arith, sized [] (rw is refl), ap (λ xs. length xs) (parts.plain.well_formed.no_point is))
+
+-- a power of two digits at most
+pub short_power : (text made : List ℕ) (n : ℕ) → text ≡ made → made ≡ decimal n → n < 100 → length text ≤ 2
+short_power text made n is written few = omega (arith, ap (λ t. length t) is, ap (λ t. length t) written, length-decimal-le 2 n (omega arith) few (omega arith))
 
 last_of : (a b : List ℕ) → 0 < length b → get_or (a ++ b) (length (a ++ b) - 1) 0 ≡ get_or b (length b - 1) 0
 last_of a b some =
@@ -191,7 +209,7 @@ single [] long first = absurd (omega arith)
 single (x ∷ []) long first = ap (λ y. y ∷ []) first
 single (x ∷ y ∷ xs) long first = absurd (omega arith)
 
-nothing : (xs : List ℕ) → length xs ≡ 0 → xs ≡ []
+pub nothing : (xs : List ℕ) → length xs ≡ 0 → xs ≡ []
 nothing [] e = refl
 nothing (x ∷ xs) e = absurd (omega arith)
 
@@ -222,19 +240,29 @@ small_number size p count parts none is whole before splits value inside =
       | inr few ↦ inr (digits, negsuc count, sig, number, rw (le-leb count 3 few, le-ltb 3 count few) (is.text ∙ (λ i. whole i ++ (46 ∷ splits i))))
     ]
 
+whole_is : (size : List ℕ) (p : Parts) → AreParts size p → get_or p.whole 0 0 ≡ 48 → p.whole ≡ 48 ∷ []
+whole_is size p parts zero_first = single p.whole (parts.plain.no_leading_zero zero_first) zero_first
+
+fraction_is : (p : Parts) (count : ℕ) → AreZerosBefore p.fraction count → p.fraction ≡ zeros count ++ drop count p.fraction
+fraction_is p count before = sym (take-append-drop count p.fraction) ∙ ap (λ xs. xs ++ drop count p.fraction) before.zeros_are
+
+pub small_value : (size : List ℕ) (p : Parts) (count : ℕ) → AreParts size p → get_or p.whole 0 0 ≡ 48 → AreZerosBefore p.fraction count
+    → digits_of p ≡ digits_value 10 (drop count p.fraction)
+small_value size p count parts zero_first before =
+    let whole = whole_is size p parts zero_first in
+    let splits = fraction_is p count before in
+    let all : p.whole ++ p.fraction ≡ zeros (suc count) ++ drop count p.fraction = (λ i. whole i ++ splits i) in
+    ap (digits_value 10) all ∙ digits_value-append (zeros (suc count)) (drop count p.fraction)
+    ∙ ap (λ n. n * 10 ^ length (drop count p.fraction) + digits_value 10 (drop count p.fraction)) (value_zeros (suc count)) ∙ omega arith
+
 pub small : (size : List ℕ) (p : Parts) (count : ℕ) → AreParts size p → p.exponent ≡ [] → get_or p.whole 0 0 ≡ 48 → AreZerosBefore p.fraction count
     → IsLaidOutAnew p (small_text size p.fraction count)
 small size p count parts none zero_first before =
     let is = near size p parts none in
-    let whole : p.whole ≡ 48 ∷ [] = single p.whole (parts.plain.no_leading_zero zero_first) zero_first in
-    let splits : p.fraction ≡ zeros count ++ drop count p.fraction = sym (take-append-drop count p.fraction) ∙ ap (λ xs. xs ++ drop count p.fraction) before.zeros_are in
-    let all : p.whole ++ p.fraction ≡ zeros (suc count) ++ drop count p.fraction = (λ i. whole i ++ splits i) in
-    let value : digits_of p ≡ digits_value 10 (drop count p.fraction) =
-    ap (digits_value 10) all ∙ digits_value-append (zeros (suc count)) (drop count p.fraction)
-    ∙ ap (λ n. n * 10 ^ length (drop count p.fraction) + digits_value 10 (drop count p.fraction)) (value_zeros (suc count)) ∙ omega arith in
+    let value = small_value size p count parts zero_first before in
     elim (cases_lt count (length p.fraction)) [
       | inr beyond ↦ inl (value ∙ ap (λ xs. digits_value 10 xs) (nothing (drop count p.fraction) (omega (arith, length-drop count p.fraction))))
-      | inl inside ↦ small_number size p count parts none is whole before splits value inside
+      | inl inside ↦ small_number size p count parts none is (whole_is size p parts zero_first) before (fraction_is p count before) value inside
     ]
 
 tenfold : (w z : ℕ) → w * 10 ^ z * 10 ^ 1 + 0 ≡ w * 10 ^ (z + 1)

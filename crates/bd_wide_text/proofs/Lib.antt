@@ -1,4 +1,5 @@
 pub mod Decimal128Lemmas
 pub mod DoubleLemmas
 pub mod LayoutLemmas
+pub mod PlainLemmas
 pub mod ReadBackLemmas

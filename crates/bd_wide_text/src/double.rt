@@ -1,6 +1,6 @@
-//! The text of a double. On `NoMemory` a prefix of it may remain.
+//! The text of a double.
 
-ghost use Rattle.std.specs.Prelude.{◌≡◌, ◌<◌, ◌≤◌, ◌≢◌, ◌==◌, ◌++◌, length, OnErr, OnOk, IfSome, IfNone, slice_index};
+ghost use Rattle.std.specs.Prelude.{◌≡◌, ◌<◌, ◌≤◌, ◌≢◌, ◌==◌, ◌+◌, ◌++◌, length, take, OnErr, OnOk, IfSome, IfNone, slice_index};
 ghost use Rattle.std.specs.Io.{StartsWith};
 ghost use Rattle.std.specs.Float.{binary64};
 ghost use Rattle.std.specs.Float.Ieee.{of_bits};
@@ -9,31 +9,60 @@ ghost use Rattle.bd_wide_text.specs.Double.{IsDoubleText, padded};
 ghost use Rattle.bd_wide_text.specs.inside.LaidOutAnew.{AreParts, AreZerosAfter, AreZerosBefore, IsLaidOutAnew, IsSized, large_text, small_text};
 ghost use Rattle.bd_wide_text.specs.Layout.{Adds, mantissa};
 
-use crate::layout::write_mantissa;
+use crate::layout::{put, put_mantissa};
+use crate::plain::{is_middling, put_plain};
 use bd_value::NoMemory;
 use fast_float::Numeral;
 use itoa::Buffer;
 
-/// Appends the text of the double with these bits.
+/// More space than the text of a double takes.
+pub const DOUBLE: usize = 40;
+
+/// Appends the text of the double with these bits. On `NoMemory` a prefix of it may remain.
 pub fn write_double(bits: u64, out: &mut Vec<u8>) -> Result<(), NoMemory>
     ensures ok { OnOk result (Adds (IsDoubleText bits) out.old.items out.new.items) }
     ensures prefix { OnErr result (StartsWith out.new.items out.old.items) }
 {
+    let mut text = [0; DOUBLE];
+    let size = put_double(bits, &mut text, 0);
+    out.extend_from_slice(&text[..size])
+}
+
+/// Writes the text of the double with these bits after the text in a buffer, and returns the new end.
+pub fn put_double(bits: u64, buffer: &mut [u8], end: usize) -> usize
+    requires { end + DOUBLE ≤ length buffer.old }
+    ensures appended { Adds (IsDoubleText bits) (take end buffer.old) (take result buffer.new) }
+    ensures end { result ≤ end + DOUBLE }
+{
+    if is_middling(bits) {
+        return put_plain(bits, buffer, end);
+    }
+    put_any(bits, buffer, end)
+}
+
+/// The same, for each double.
+#[inline(never)]
+fn put_any(bits: u64, buffer: &mut [u8], end: usize) -> usize
+    requires { end + DOUBLE ≤ length buffer.old }
+    ensures appended { Adds (IsDoubleText bits) (take end buffer.old) (take result buffer.new) }
+    ensures end { result ≤ end + DOUBLE }
+{
     let Some(word) = word(bits) else {
-        return write_number(bits, out);
+        return put_number(bits, buffer, end);
     };
-    out.extend_from_slice(word)
+    put(word, buffer, end)
 }
 
 /// The bits of an infinite double.
 const INFINITE: u64 = 0x7FF0_0000_0000_0000;
 
 /// The bits of -0.0: only the sign is set.
-const SIGN: u64 = 0x8000_0000_0000_0000;
+pub(crate) const SIGN: u64 = 0x8000_0000_0000_0000;
 
 /// The text of a double that is zero, infinite or NaN; None for any other.
 fn word(bits: u64) -> Option<&'static [u8]>
     ensures word { IfSome result (λ w. IsDoubleText bits w.now) }
+    ensures short { IfSome result (λ w. length w.now ≤ 9) }
     ensures number { IfNone result (IsSized (of_bits binary64 bits)) }
 {
     if bits == 0 {
@@ -54,21 +83,21 @@ fn word(bits: u64) -> Option<&'static [u8]>
     None
 }
 
-/// Appends the text of a number other than zero.
-#[tactic(auto, using(bd_value::proofs::PrefixLemmas::prefixes))]
-fn write_number(bits: u64, out: &mut Vec<u8>) -> Result<(), NoMemory>
-    requires { IsSized (of_bits binary64 bits) }
-    ensures ok { OnOk result (Adds (IsDoubleText bits) out.old.items out.new.items) }
-    ensures prefix { OnErr result (StartsWith out.new.items out.old.items) }
+/// Writes the text of a number other than zero.
+fn put_number(bits: u64, buffer: &mut [u8], end: usize) -> usize
+    requires number { IsSized (of_bits binary64 bits) }
+    requires space { end + DOUBLE ≤ length buffer.old }
+    ensures appended { Adds (IsDoubleText bits) (take end buffer.old) (take result buffer.new) }
+    ensures end { result ≤ end + DOUBLE }
 {
-    let mut buffer = ryu::Buffer::new();
-    let text = buffer.format_finite(f64::from_bits(bits)).as_bytes();
+    let mut made = ryu::Buffer::new();
+    let text = made.format_finite(f64::from_bits(bits)).as_bytes();
     if !has_sign(text) {
-        return write_size(text, out);
+        return put_size(text, buffer, end);
     }
     let (_, size) = text.split_at(1);
-    out.extend_from_slice(b"-")?;
-    write_size(size, out)
+    let at = put(b"-", buffer, end);
+    put_size(size, buffer, at)
 }
 
 /// Whether there is a minus before the number.
@@ -81,11 +110,13 @@ fn has_sign(text: &[u8]) -> bool
     }
 }
 
-/// Appends the number for its text from `ryu` without the sign.
-fn write_size(size: &[u8], out: &mut Vec<u8>) -> Result<(), NoMemory>
-    requires { AreParts size.now (scan size.now) }
-    ensures ok { OnOk result (Adds (IsLaidOutAnew (scan size.now)) out.old.items out.new.items) }
-    ensures prefix { OnErr result (StartsWith out.new.items out.old.items) }
+/// Writes the number for its text from `ryu` without the sign.
+fn put_size(size: &[u8], buffer: &mut [u8], end: usize) -> usize
+    requires parts { AreParts size.now (scan size.now) }
+    requires space { end + 32 ≤ length buffer.old }
+    ensures appended { Adds (IsLaidOutAnew (scan size.now)) (take end buffer.old)
+        (take result buffer.new) }
+    ensures end { result ≤ end + 32 }
 {
     let numeral = Numeral::scan(size);
     let whole = numeral.whole();
@@ -93,83 +124,86 @@ fn write_size(size: &[u8], out: &mut Vec<u8>) -> Result<(), NoMemory>
     let exponent = numeral.exponent();
     if !exponent.is_empty() {
         if numeral.is_exponent_negative() {
-            return write_scientific(whole, fraction, b"E-", exponent, out);
+            return put_scientific(whole, fraction, b"E-", exponent, buffer, end);
         }
-        return write_scientific(whole, fraction, b"E+", exponent, out);
+        return put_scientific(whole, fraction, b"E+", exponent, buffer, end);
     }
     if whole[0] == b'0' {
-        write_small(size, fraction, zeros_before(fraction), out)
+        put_small(size, fraction, zeros_before(fraction), buffer, end)
     } else {
-        write_large(size, whole, fraction, without_zeros(whole), out)
+        put_large(size, whole, fraction, without_zeros(whole), buffer, end)
     }
 }
 
-/// Appends digits in two runs; `sign` and `power` are the power of ten of the first digit.
-#[tactic(auto, using(bd_value::proofs::PrefixLemmas::prefixes))]
-fn write_scientific(
+/// Writes digits in two runs; `sign` and `power` are the power of ten of the first digit.
+fn put_scientific(
     digits: &[u8],
     more: &[u8],
-    sign: &[u8],
+    sign: &[u8; 2],
     power: &[u8],
-    out: &mut Vec<u8>,
-) -> Result<(), NoMemory>
-    requires { 0 < length digits.now }
-    ensures ok { OnOk result (out.new.items ≡ out.old.items
-        ++ (mantissa (digits.now ++ more.now) ++ (sign.now ++ padded power.now))) }
-    ensures prefix { OnErr result (StartsWith out.new.items out.old.items) }
+    buffer: &mut [u8],
+    end: usize,
+) -> usize
+    requires some { 0 < length digits.now }
+    requires few { length digits.now + length more.now + length power.now ≤ 28 }
+    requires space { end + 32 ≤ length buffer.old }
+    ensures appended { take result buffer.new ≡ take end buffer.old
+        ++ (mantissa (digits.now ++ more.now) ++ (sign.now ++ padded power.now)) }
+    ensures end { result ≤ end + 32 }
 {
-    write_mantissa(digits, more, out)?;
-    out.extend_from_slice(sign)?;
+    let at = put_mantissa(digits, more, buffer, end);
+    let at = put(sign, buffer, at);
     if power.len() == 1 {
-        out.extend_from_slice(b"0")?;
+        let at = put(b"0", buffer, at);
+        return put(power, buffer, at);
     }
-    out.extend_from_slice(power)
+    put(power, buffer, at)
 }
 
-/// Appends a number below 1: as it is, or with the power of ten if there are more than three zeros before its digits.
-fn write_small(
-    size: &[u8],
-    fraction: &[u8],
-    zeros: usize,
-    out: &mut Vec<u8>,
-) -> Result<(), NoMemory>
-    requires { zeros ≤ length fraction.now }
-    ensures ok { OnOk result
-        (out.new.items ≡ out.old.items ++ small_text size.now fraction.now zeros) }
-    ensures prefix { OnErr result (StartsWith out.new.items out.old.items) }
+/// Writes a number below 1: as it is, or with the power of ten if there are more than three zeros before its digits.
+fn put_small(size: &[u8], fraction: &[u8], zeros: usize, buffer: &mut [u8], end: usize) -> usize
+    requires zeros { zeros ≤ length fraction.now }
+    requires few { (length size.now ≤ 25) × (length fraction.now ≤ 24) }
+    requires space { end + 32 ≤ length buffer.old }
+    ensures appended { take result buffer.new
+        ≡ take end buffer.old ++ small_text size.now fraction.now zeros }
+    ensures end { result ≤ end + 32 }
 {
     if zeros <= 3 || zeros == fraction.len() {
-        return out.extend_from_slice(size);
+        return put(size, buffer, end);
     }
-    let mut buffer = Buffer::new();
-    let power = buffer.format(zeros + 1).as_bytes();
-    write_scientific(&fraction[zeros..], b"", b"E-", power, out)
+    let mut made = Buffer::new();
+    let power = made.format(zeros + 1).as_bytes();
+    put_scientific(&fraction[zeros..], b"", b"E-", power, buffer, end)
 }
 
-/// Appends a number of 1 or more, which has `count` whole digits without their trailing zeros: as it is, or with the power of ten
+/// Writes a number of 1 or more, which has `count` whole digits without their trailing zeros: as it is, or with the power of ten
 /// if there are more than six digits before the point.
-fn write_large(
+fn put_large(
     size: &[u8],
     whole: &[u8],
     fraction: &[u8],
     count: usize,
-    out: &mut Vec<u8>,
-) -> Result<(), NoMemory>
+    buffer: &mut [u8],
+    end: usize,
+) -> usize
     requires whole { (0 < count) × (count ≤ length whole.now) }
     requires fraction { 0 < length fraction.now }
-    ensures ok { OnOk result (out.new.items
-        ≡ out.old.items ++ large_text size.now whole.now fraction.now count) }
-    ensures prefix { OnErr result (StartsWith out.new.items out.old.items) }
+    requires few { (length size.now ≤ 25) × (length whole.now + length fraction.now ≤ 24) }
+    requires space { end + 32 ≤ length buffer.old }
+    ensures appended { take result buffer.new
+        ≡ take end buffer.old ++ large_text size.now whole.now fraction.now count }
+    ensures end { result ≤ end + 32 }
 {
     if whole.len() <= 6 {
-        return out.extend_from_slice(size);
+        return put(size, buffer, end);
     }
-    let mut buffer = Buffer::new();
-    let power = buffer.format(whole.len() - 1).as_bytes();
+    let mut made = Buffer::new();
+    let power = made.format(whole.len() - 1).as_bytes();
     if fraction[fraction.len() - 1] == b'0' {
-        write_scientific(&whole[..count], b"", b"E+", power, out)
+        put_scientific(&whole[..count], b"", b"E+", power, buffer, end)
     } else {
-        write_scientific(whole, fraction, b"E+", power, out)
+        put_scientific(whole, fraction, b"E+", power, buffer, end)
     }
 }
 

@@ -10,7 +10,9 @@
 //! assert!(rt; text.as_slice() == b"1.5".as_slice());
 //! ```
 //!
-//! - `double`: `write_double`, by the digits that `ryu` finds (`specs/inside/LaidOutAnew.antt`).
+//! - `double`: `write_double`, and `put_double`, which writes into a buffer, by the digits that `ryu` finds
+//!   (`specs/inside/LaidOutAnew.antt`).
+//! - `plain`: doubles whose text has no power of ten.
 //! - `decimal128`: `write_decimal128`.
 //! - `layout`: what both use.
 //! - `laws`: the text of a double is read back as the double.
@@ -20,7 +22,8 @@ mod decimal128;
 mod double;
 mod laws;
 mod layout;
+mod plain;
 
 pub use decimal128::write_decimal128;
-pub use double::write_double;
+pub use double::{DOUBLE, put_double, write_double};
 pub use laws::double_text_reads_back;

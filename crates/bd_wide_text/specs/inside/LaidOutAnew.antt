@@ -1,5 +1,5 @@
 -- The text from `ryu` for a double, laid out again: used only in proofs.
-use Rattle.std.specs.Prelude.{◌≡◌, ◌≢◌, ◌<◌, ◌≤◌, ◌⊎◌, ℕ, ◌+◌, ◌-◌, ◌==◌, ◌||◌, Bool, List, [], ◌++◌, length, take, drop}
+use Rattle.std.specs.Prelude.{◌≡◌, ◌≢◌, ◌<◌, ◌≤◌, ◌⊎◌, ℕ, ◌+◌, ◌-◌, ◌%◌, ◌^◌, ◌==◌, ◌||◌, Bool, List, [], ◌++◌, length, take, drop}
 use Rattle.std.specs.Prelude.{slice_index, nat_le, if◌then◌else◌, codes, decimal, ℤ}
 use Rattle.std.specs.Float.Ieee.{Float, nan, inf, fin}
 use Rattle.std.specs.Float.{binary64}
@@ -13,6 +13,10 @@ abbrev pub IsSized : Float → Type 0
 IsSized nan = ⊥
 IsSized (inf negative) = ⊥
 IsSized (fin negative m e) = 1 ≤ m
+
+-- The double with these bits is above 0.0001 and below 1,000,000, or is so without its sign.
+abbrev pub IsMiddling : ℕ → Type 0
+IsMiddling bits = (0x3F1A_36E2_EB1C_432D < bits % 2 ^ 63) × (bits % 2 ^ 63 < 0x412E_8480_0000_0000)
 
 -- The text is short, has these parts, and has the layout of `ryu`.
 pub record AreParts (size : List ℕ) (p : Parts) : Type 0 where
