@@ -85,11 +85,15 @@ pub number_in_part : (end : ℕ) (old out new lead : List ℕ) → end ≤ lengt
 number_in_part end old out new lead inside is begins = prefix end (length out) old lead new inside (begins ∙ is)
 
 -- what follows a number is written
+pub tail_kept : {E : Type 0} (old mid new lead number tail : List ℕ) (end at : ℕ) (r : Result ℕ E) → end ≤ length old → take at mid ≡ (take end old ++ lead) ++ number
+    → Appends mid at r new tail → OnErr r (take end new ≡ take end old)
+tail_kept old mid new lead number tail end at r inside is put =
+    let whole : take at mid ≡ take end old ++ (lead ++ number) = is ∙ append_assoc (take end old) lead number in
+    kept end at old mid new tail r (rises end at old (lead ++ number) mid inside whole) (prefix end at old (lead ++ number) mid inside whole) put
+
 pub number_kept : {E : Type 0} (old mid new lead number tail : List ℕ) (end at : ℕ) (r : Result ℕ E) → end ≤ length old → mid ≡ (take end old ++ lead) ++ number → at ≡ length mid
     → Appends mid at r new tail → OnErr r (take end new ≡ take end old)
-number_kept old mid new lead number tail end at r inside is all put =
-    let whole : take at mid ≡ take end old ++ (lead ++ number) = take_all at mid (omega (arith, all)) ∙ is ∙ append_assoc (take end old) lead number in
-    kept end at old mid new tail r (rises end at old (lead ++ number) mid inside whole) (prefix end at old (lead ++ number) mid inside whole) put
+number_kept old mid new lead number tail end at r inside is all put = tail_kept old mid new lead number tail end at r inside (take_all at mid (omega (arith, all)) ∙ is) put
 
 -- ---- code with scope
 
@@ -161,17 +165,20 @@ module _ {E : Type 0} (format : JsonFormat) (bytes : List ℕ) (start at : ℕ) 
 -- ---- a number, between what precedes it and what follows it
 
 -- the text of a number is written
-pub number_done : {E : Type 0} (Is : List ℕ → Type 0) (old mid new lead number tail : List ℕ) (end at : ℕ) (r : Result ℕ E) → mid ≡ (take end old ++ lead) ++ number → at ≡ length mid
+pub tail_done : {E : Type 0} (Is : List ℕ → Type 0) (old mid new lead number tail : List ℕ) (end at : ℕ) (r : Result ℕ E) → take at mid ≡ (take end old ++ lead) ++ number
     → Is (lead ++ (number ++ tail)) → Appends mid at r new tail → IfOk r (λ e. AppendsBy Is old end e new)
-number_done Is old mid new lead number tail end at (Ok e) is all text put =
-    let whole : take at mid ≡ (take end old ++ lead) ++ number = take_all at mid (omega (arith, all)) ∙ is in
+tail_done Is old mid new lead number tail end at (Ok e) whole text put =
     record {
       text = lead ++ (number ++ tail);
       is = text;
       written = put.0 ∙ ap (λ (x : List ℕ). x ++ tail) whole ∙ simp append_assoc;
       inside = put.1;
     }
-number_done Is old mid new lead number tail end at (Err e) is all text put = tt
+tail_done Is old mid new lead number tail end at (Err e) whole text put = tt
+
+pub number_done : {E : Type 0} (Is : List ℕ → Type 0) (old mid new lead number tail : List ℕ) (end at : ℕ) (r : Result ℕ E) → mid ≡ (take end old ++ lead) ++ number → at ≡ length mid
+    → Is (lead ++ (number ++ tail)) → Appends mid at r new tail → IfOk r (λ e. AppendsBy Is old end e new)
+number_done Is old mid new lead number tail end at r is all text put = tail_done Is old mid new lead number tail end at r (take_all at mid (omega (arith, all)) ∙ is) text put
 
 shift : (o a b x y : List ℕ) → (((o ++ a) ++ b) ++ x) ++ y ≡ o ++ (((a ++ b) ++ x) ++ y)
 shift o a b x y = simp append_assoc

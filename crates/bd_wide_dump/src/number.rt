@@ -4,12 +4,14 @@ ghost use Rattle.std.specs.Prelude.{◌≡◌, ◌≤◌, ◌+◌, ◌++◌, ℕ
 ghost use Rattle.std.specs.Float.{Ieee.of_bits, binary64, float_is_finite};
 ghost use Rattle.bd_bson_view.specs.Sizes.{long_of};
 ghost use Rattle.bd_bson_view.specs.Spelling.{as_double};
+ghost use Rattle.bd_wide_text.specs.Double.{IsDoubleText};
+ghost use Rattle.bd_wide_text.specs.Layout.{Adds};
 ghost use Rattle.bd_wide_dump.specs.WideText.{IsDoubleIn, IsNumberText, decimal_text, is_bare};
 ghost use Rattle.bd_wide_dump.specs.inside.Begins.{AppendsBy};
 
 use crate::format::JsonFormat;
-use bd_extjson_text::{End, append_few};
-use bd_wide_text::{write_decimal128, write_double};
+use bd_extjson_text::{End, VALUE, append_few};
+use bd_wide_text::{put_double, write_decimal128};
 
 /// The first eight bytes as a number.
 pub(crate) fn long(bytes: &[u8]) -> u64
@@ -70,9 +72,8 @@ pub(crate) fn append_digits(bits: u64, out: &mut Vec<u8>, end: usize) -> End
         AppendsBy (λ text. IsDoubleIn true bits text) out.old.items end e out.new.items) }
     ensures err { OnErr result (take end out.new.items ≡ take end out.old.items) }
 {
-    out.truncate(end);
-    write_double(bits, out)?;
-    Ok(out.len())
+    let at = append_few(b"", out, end)?;
+    Ok(put_double(bits, out.as_mut_slice(), at))
 }
 
 /// Appends a double in its wrapper.
@@ -83,10 +84,18 @@ fn append_wrapped(bits: u64, out: &mut Vec<u8>, end: usize) -> End
     ensures err { OnErr result (take end out.new.items ≡ take end out.old.items) }
 {
     let at = append_few(b"{\"$numberDouble\":\"", out, end)?;
-    out.truncate(at);
-    write_double(bits, out)?;
-    let at = out.len();
+    let at = put_double_in(bits, out, at);
     append_few(b"\"}", out, at)
+}
+
+/// Writes the text of a double after the text in a buffer that has space for it, and returns the new end.
+#[inline(always)]
+fn put_double_in(bits: u64, out: &mut Vec<u8>, end: usize) -> usize
+    requires { end + VALUE ≤ length out.old.items }
+    ensures appended { Adds (IsDoubleText bits) (take end out.old.items) (take result out.new.items) }
+    ensures within { result ≤ length out.new.items }
+{
+    put_double(bits, out.as_mut_slice(), end)
 }
 
 /// Appends the decimal128 at an offset of the bytes.
