@@ -4,8 +4,12 @@ use Rattle.bd_wide_text.proofs.double.put_large.Goals as goal
 
 pub put_scientific-requires-clause-few : goal.put_scientific-requires-clause-few
 put_scientific-requires-clause-few c =
-    omega (arith, c.requires.few.1, short_power c.as_bytes-power.result.now c.format.result.now (length c.args.whole.now - 1) c.as_bytes-power.ensures.value c.format.ensures.text (omega (arith, c.requires.few.1)),
-    length-take c.args.count c.args.whole.now)
+    omega (
+      arith,
+      c.requires.few.1,
+      short_power c.as_bytes-power.result.now c.format.result.now (length c.args.whole.now - 1) c.as_bytes-power.ensures.value c.format.ensures.text (omega (arith, c.requires.few.1)),
+      length-take c.args.count c.args.whole.now,
+    )
 
 pub put_scientific-requires-else-fraction-eq48-clause-few : goal.put_scientific-requires-else-fraction-eq48-clause-few
 put_scientific-requires-else-fraction-eq48-clause-few c =
