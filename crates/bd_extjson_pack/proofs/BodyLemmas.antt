@@ -32,9 +32,9 @@ use Rattle.std.proofs.lemmas.Str.{is_utf8-from_IsUtf8}
 use Rattle.json.specs.{Json.if_last, Lex.tokens}
 use Rattle.bd_value.specs.{Limits.most_brackets, Limits.most_levels, Limits.longest_document, Tree.pairs_of, Tree.fields_of-pairs_of}
 use Rattle.bd_extjson_pack.specs.Packable.{plain, IsPackable}
-use Rattle.bd_extjson_pack.specs.inside.Writes.{Writes, NotRead, if_document, alone}
+use Rattle.bd_extjson_pack.specs.inside.Writes.{Writes, NotWritten, if_document, alone}
 use Rattle.bd_extjson_pack.specs.declared.refusal.Refusal.{Refusal}
-use Rattle.bd_extjson_pack.specs.declared.refusal.Refusal.TheVariants as refusals
+use Rattle.bd_extjson_pack.proofs.LengthLemmas.{not_written_by, made_of}
 use Rattle.bd_extjson_wrapper.specs.declared.wrapper.Wrapper.TheVariants as kinds
 
 -- the bytes of one more field come after those of the fields before it
@@ -103,20 +103,22 @@ ended whole at old body out here is =
 -- ---- what is read and written, or refused
 
 -- what is made of what is read, and written so
-pub if_read : {A B X : Type 0} (make : A → B) (Written : X → A → Type 0) (Whole : X → B → Type 0) (rest : List Token) (r : Result X Refusal)
-    (read : Option (A × List Token)) (whole : Option (B × List Token)) → whole ≡ parse_map make read → ((u : X) (x : A) → Written u x → Whole u (make x))
-    → Writes Written rest r read → Writes Whole rest r whole
-if_read make Written Whole rest (Ok u) read whole e f w = (make w.0, e ∙ ap (parse_map make) w.1, f u w.0 w.2)
-if_read make Written Whole rest (Err refusals.Unread) read whole e f w = e ∙ ap (parse_map make) w
-if_read make Written Whole rest (Err (refusals.Unwritten fault)) read whole e f w = tt
+pub if_read : {A B X : Type 0} (make : A → B) (of : A → X) (made : B → X) (bytes : A → List ℕ) (whole_bytes : B → List ℕ) (old new : List ℕ) (rest : List Token) (r : Result X Refusal)
+    (read : Option (A × List Token)) (whole : Option (B × List Token)) → whole ≡ parse_map make read → ((x : A) → made (make x) ≡ of x) → ((x : A) → whole_bytes (make x) ≡ bytes x)
+    → Writes of bytes old new rest r read → Writes made whole_bytes old new rest r whole
+if_read make of made bytes whole_bytes old new rest (Ok u) read whole e f g w =
+    (make w.0, e ∙ ap (parse_map make) w.1, w.2 ∙ sym (f w.0), w.3 ∙ ap (λ x. old ++ x) (sym (g w.0)))
+if_read make of made bytes whole_bytes old new rest (Err e) read whole is f g w =
+    not_written_by (λ p. length old + length (bytes p.0)) (λ p. length old + length (whole_bytes p.0)) e read whole
+    (λ b some. let p = made_of make read b (sym is ∙ some) in (p.0, p.1, omega (arith, ap (λ t. length (whole_bytes t)) p.2, ap (λ x. length x) (g p.0.0)))) w
 
 -- an object whose first name is a wrapper's
-pub if_wrapper : {X : Type 0} (Written : X → Tree → Type 0) (rest : List Token) (r : Result X Refusal) (w : Wrapper) (depth_left depth n : ℕ)
+pub if_wrapper : {X : Type 0} (of : Tree → X) (old new : List ℕ) (rest : List Token) (r : Result X Refusal) (w : Wrapper) (depth_left depth n : ℕ)
     (ts : List Token) (key : Option (List ℕ)) → option_and_then wrapper_of key ≡ Some w
-    → ((name : List ℕ) → wrapper_of name ≡ Some w → Writes Written rest r (through (wrap_object depth_left) (after_key depth n (Some name) ts)))
-    → Writes Written rest r (through (wrap_object depth_left) (after_key depth n key ts))
-if_wrapper Written rest r w depth_left depth n ts None e f = absurd cc
-if_wrapper Written rest r w depth_left depth n ts (Some name) e f = f name e
+    → ((name : List ℕ) → wrapper_of name ≡ Some w → Writes of bytes_of old new rest r (through (wrap_object depth_left) (after_key depth n (Some name) ts)))
+    → Writes of bytes_of old new rest r (through (wrap_object depth_left) (after_key depth n key ts))
+if_wrapper of old new rest r w depth_left depth n ts None e f = absurd cc
+if_wrapper of old new rest r w depth_left depth n ts (Some name) e f = f name e
 
 -- ---- what was read
 
@@ -131,11 +133,6 @@ no_items_before (Some p) = refl
 not_some : {A : Type 0} (o : Option A) → is_some o ≡ false → o ≡ None
 not_some None e = refl
 not_some (Some x) e = absurd (true≢false e)
-
--- if nothing is read, nothing is read of the whole
-pub unread_by : {A B : Type 0} (e : Refusal) (x : Option A) (y : Option B) → (x ≡ None → y ≡ None) → NotRead e x → NotRead e y
-unread_by refusals.Unread x y f h = f h
-unread_by (refusals.Unwritten fault) x y f h = tt
 
 -- ---- a whole text
 
@@ -164,8 +161,23 @@ reading_is text ts utf8 e =
     ap (λ o. option_map pairs_of (option_and_then document (option_and_then (wrap most_levels) o))) (json_is text (is_utf8-from_IsUtf8 text utf8))
     ∙ last (value most_brackets (tokens text)) ∙ ap (λ k. whole (if_document (through (wrap most_levels) (value most_brackets k)))) (sym e)
 
-pub unread : (text : List ℕ) (ts : List Token) → IsUtf8 text → ts ≡ tokens text → if_document (through (wrap most_levels) (value most_brackets ts)) ≡ None → reading text ≡ None
-unread text ts utf8 e none = reading_is text ts utf8 e ∙ ap whole none
+all_of : (r : Option (Fields × List Token)) (d : Doc) → whole r ≡ Some d → (a : Fields × List Token) × (r ≡ Some a) × (pairs_of a.0 ≡ d)
+all_of None d e = absurd cc
+all_of (Some (fs, [])) d e = ((fs, []), refl, cc)
+all_of (Some (fs, t ∷ ts)) d e = absurd cc
+
+-- what is not written of the document of a text's tokens is not of the text
+pub unwritten : (text : List ℕ) (ts : List Token) (size : ℕ) (e : Refusal) → IsUtf8 text → ts ≡ tokens text
+    → NotWritten (λ p. size + length (bytes_of (doc p.0))) e (if_document (through (wrap most_levels) (value most_brackets ts)))
+    → NotWritten (λ d. size + length (plain d)) e (reading text)
+unwritten text ts size e utf8 same h =
+    let r = if_document (through (wrap most_levels) (value most_brackets ts)) in
+    not_written_by (λ p. size + length (bytes_of (doc p.0))) (λ d. size + length (plain d)) e r (reading text)
+    (λ d is.
+    let p = all_of r d (sym (reading_is text ts utf8 same) ∙ is) in
+    let fields : fields_of d ≡ p.0.0 = ap fields_of (sym p.2) ∙ fields_of-pairs_of p.0.0 in
+    (p.0, p.1, omega (arith, ap (λ fs. length (bytes_of (doc fs))) fields)))
+    h
 
 -- a text whose tokens do not end with the document is none
 pub unended : (text : List ℕ) (ts rest : List Token) (fs : Fields) → IsUtf8 text → ts ≡ tokens text → if_document (through (wrap most_levels) (value most_brackets ts)) ≡ Some (fs, rest)

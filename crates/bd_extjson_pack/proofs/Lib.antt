@@ -1,3 +1,4 @@
 pub mod BodyLemmas
 pub mod CanonicalLemmas
+pub mod LengthLemmas
 pub mod PlainLemmas

@@ -11,7 +11,7 @@ ghost use Rattle.bd_extjson_text.specs.Text.{text as text_of, items_text, fields
 ghost use Rattle.bd_extjson_pack.specs.Packable.{plain, IsPackable};
 ghost use Rattle.bd_extjson_pack.specs.Canonical.{IsCanonical};
 ghost use Rattle.bd_extjson_pack.specs.inside.Packable.{AreCanonical, AreCanonicalFields};
-ghost use Rattle.bd_extjson_pack.specs.inside.Writes.{NotRead};
+ghost use Rattle.bd_extjson_pack.specs.inside.Writes.{NotWritten};
 ghost use Rattle.std.specs.{Fmt.signed_decimal, Result.result_ok, List.list_any};
 ghost use Rattle.base64.specs.{Engines.standard, GeneralPurpose.encode_of, GeneralPurpose.decode_of};
 ghost use Rattle.bd_value.specs.Fits.{AreBytes, IsId, has_zero};
@@ -410,7 +410,8 @@ fn binary<'a>(text: &'a str) -> Option<(u8, &'a str, &'a str)>
 fn decoded(alloc: Global, digits: &str) -> Result<Vec<u8>, Refusal>
     ensures decoded { IfOk result (λ v.
         (digits.now ≡ encode_of standard v.items) × AreBytes v.items) }
-    ensures refused { IfErr result (λ e. NotRead e (result_ok (decode_of standard digits.now))) }
+    ensures refused { IfErr result (λ e. NotWritten
+        (λ payload. length payload) e (result_ok (decode_of standard digits.now))) }
 {
     match STANDARD.decode(alloc, digits.as_bytes()) {
         Ok(payload) => Ok(payload),

@@ -1,8 +1,9 @@
 //! Elements, appended to bytes. The byte for the type of an element is put there last, once its value was appended.
-ghost use Rattle.std.specs.Prelude.{◌≡◌, ◌≤◌, ◌<◌, ◌+◌, ◌++◌, ◌∷◌, [], ℕ, List, IfOk, OnOk, decimal, false, length, take, drop, vec_len};
+ghost use Rattle.std.specs.Prelude.{◌≡◌, ◌≤◌, ◌<◌, ◌+◌, ◌++◌, ◌∷◌, [], ℕ, List, IfErr, IfOk, OnOk, decimal, false, length, take, drop, vec_len};
 ghost use Rattle.bd_value.specs.Fits.{zero_in_leaf};
 ghost use Rattle.bd_value.specs.View.{view_of};
-ghost use Rattle.bd_bson_write.specs.TreeBytes.{leaf_bytes};
+ghost use Rattle.bd_value.specs.Limits.{longest_document};
+ghost use Rattle.bd_bson_write.specs.TreeBytes.{OverrunsLimit, leaf_bytes};
 ghost use Rattle.bd_bson_view.specs.Spelling.{number, type_byte as byte_of};
 
 use bd_bson_view::type_byte;
@@ -14,9 +15,11 @@ use bd_value::{Kind, LONGEST_DOCUMENT, Scalar};
 #[inline(always)]
 pub fn begin_element(label: &[u8], out: &mut Vec<u8>) -> Result<usize, WriteFault>
     requires { 0 < length label.now }
-    ensures { IfOk result (λ at. (at ≡ length out.old.items)
+    ensures ok { IfOk result (λ at. (at ≡ length out.old.items)
         × ((name : List ℕ) (first : ℕ) (last : ℕ) → label.now ≡ first ∷ (name ++ last ∷ []) →
         out.new.items ≡ out.old.items ++ (first ∷ (name ++ 0 ∷ [])))) }
+    ensures within { OnOk result (length out.old.items ≤ longest_document) }
+    ensures fault { IfErr result (OverrunsLimit (length out.old.items)) }
 {
     let at = out.len();
     if at > LONGEST_DOCUMENT {
@@ -33,8 +36,10 @@ const DIGITS: usize = 20;
 /// The same for an element of an array, whose name is its index.
 #[inline(always)]
 pub fn begin_item(index: u32, out: &mut Vec<u8>) -> Result<usize, WriteFault>
-    ensures { IfOk result (λ at. (at ≡ length out.old.items) × ((first : ℕ)
+    ensures ok { IfOk result (λ at. (at ≡ length out.old.items) × ((first : ℕ)
         × (out.new.items ≡ out.old.items ++ (first ∷ (decimal index ++ 0 ∷ []))))) }
+    ensures within { OnOk result (length out.old.items ≤ longest_document) }
+    ensures fault { IfErr result (OverrunsLimit (length out.old.items)) }
 {
     let mut digits = [0; 2 * DIGITS];
     let start = itoa::write_digits(u64::from(index), &mut digits, DIGITS);
@@ -71,8 +76,10 @@ pub(crate) fn append_leaf(
     out: &mut Vec<u8>,
 ) -> Result<Kind, WriteFault>
     requires { zero_in_leaf (view_of scalar) ≡ false }
-    ensures { IfOk result (λ k. (k ≡ kind)
+    ensures ok { IfOk result (λ k. (k ≡ kind)
         × (out.new.items ≡ out.old.items ++ leaf_bytes (view_of scalar.entry))) }
+    ensures fault { IfErr result
+        (OverrunsLimit (length out.old.items + length (leaf_bytes (view_of scalar.entry)))) }
 {
     write_scalar(scalar, out)?;
     Ok(kind)

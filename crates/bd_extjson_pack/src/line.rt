@@ -1,15 +1,15 @@
 //! A line as the bytes of the document that it is.
-ghost use Rattle.std.specs.Prelude.{◌≡◌, ◌++◌, ◌<◌, ◌≤◌, ℕ, List, length, IfOk, IfSome, OnErr, None, Some, Ok};
+ghost use Rattle.std.specs.Prelude.{◌≡◌, ◌≢◌, ◌++◌, IfErr, IfOk, IfSome, OnErr, OnOk, None, Some, Ok};
 ghost use Rattle.std.specs.Str.{IsUtf8};
-ghost use Rattle.bd_value.specs.{Limits.longest_document, Tree.Doc, View.pairs};
-ghost use Rattle.bd_extjson.specs.Read.{ReadsAs};
+ghost use Rattle.bd_value.specs.Tree.{Doc};
 ghost use Rattle.bd_extjson_fault.specs.TextFault.{text_fault};
+ghost use Rattle.bd_extjson_fault.specs.declared.json_fault.JsonFaultKind.TheVariants as kinds;
 ghost use Rattle.bd_extjson_pack.specs.Packable.{plain, IsPackable, IsBad};
 ghost use Rattle.bd_extjson_pack.specs.declared.line.LineFault.TheVariants.{TooLong, Unread};
 
 use crate::refusal::Refusal;
 use crate::tokens::spell_line;
-use bd_bson_write::{WriteFault, write_document};
+use bd_bson_write::WriteFault;
 use bd_extjson::{fault_of, read_doc_text};
 use bd_extjson_fault::{JsonFault, JsonFaultKind, text_of};
 use bd_value::{Document, NoMemory};
@@ -85,58 +85,26 @@ impl Packer {
                 fault if fault.kind == JsonFaultKind::NoMemory => Err(AllocError),
                 fault => Ok(Some(LineFault::Unread(fault))),
             },
-            // A text that is too long is read whole, by a tree: it may be no document.
-            Err(Refusal::Unwritten(_)) => pack_tree(self.alloc, text, &mut self.scratch, out),
+            // The document of the text is too long, if it is one.
+            Err(Refusal::Unwritten(_)) => {
+                let read = read_doc_text(self.alloc, text, &mut self.scratch);
+                Ok(Some(fault_of_long(read)?))
+            }
         }
     }
 }
 
-/// Packs a text by a tree of its document, and returns what is wrong with it.
+/// What is wrong with a text whose document is too long, if it is one, by how it was read.
 #[cold]
-fn pack_tree(
-    alloc: Global,
-    text: &str,
-    scratch: &mut Scratch,
-    out: &mut Vec<u8>,
-) -> Result<Option<LineFault>, NoMemory>
-    ensures packed { result ≡ Ok None →
-        (d : Doc) × IsPackable text.now d × (out.new.items ≡ out.old.items ++ plain d) }
-    ensures bad { IfOk result (λ o. IfSome o (λ f. IsBad text.now f × (out.new ≡ out.old))) }
-    ensures err { OnErr result (out.new.items ≡ out.old.items) }
+fn fault_of_long(read: Result<Document, JsonFault>) -> Result<LineFault, NoMemory>
+    ensures document { OnOk read (result ≡ Ok TooLong) }
+    ensures fault { IfErr read (λ f. IfOk result (λ why.
+        (f.kind ≢ kinds.NoMemory) × (why ≡ Unread f))) }
+    ensures memory { IfErr read (λ f. OnErr result (f.kind ≡ kinds.NoMemory)) }
 {
-    let document = match read_doc_text(alloc, text, scratch) {
-        Ok(document) => document,
-        Err(fault) if fault.kind == JsonFaultKind::NoMemory => return Err(AllocError),
-        Err(fault) => return Ok(Some(LineFault::Unread(fault))),
-    };
-    pack_document(alloc, &document, out)
-}
-
-/// Packs the document that a text is.
-fn pack_document(
-    alloc: Global,
-    document: &Document,
-    out: &mut Vec<u8>,
-) -> Result<Option<LineFault>, NoMemory>
-    requires { (text : List ℕ) × ReadsAs text (pairs document.now) }
-    ensures packed { result ≡ Ok None → (length (plain (pairs document.now)) ≤ longest_document)
-        × (out.new.items ≡ out.old.items ++ plain (pairs document.now)) }
-    ensures bad { IfOk result (λ o. IfSome o (λ f. (f ≡ TooLong)
-        × (longest_document < length (plain (pairs document.now))) × (out.new ≡ out.old))) }
-    // A document that is too long is refused as such, since it takes no memory.
-    ensures too_long { longest_document < length (plain (pairs document.now)) →
-        result ≡ Ok (Some TooLong) }
-    ensures err { OnErr result (out.new.items ≡ out.old.items) }
-{
-    match write_document(alloc, document) {
-        Ok(bytes) => {
-            out.extend_from_slice(&bytes)?;
-            Ok(None)
-        }
-        Err(WriteFault::TooLong) => Ok(Some(LineFault::TooLong)),
-        Err(WriteFault::NoMemory) => Err(AllocError),
-        // No document read from a text has this fault.
-        Err(WriteFault::TooDeep) => unreachable!(),
-        Err(WriteFault::NulInName) => unreachable!(),
+    match read {
+        Ok(_) => Ok(LineFault::TooLong),
+        Err(fault) if fault.kind == JsonFaultKind::NoMemory => Err(AllocError),
+        Err(fault) => Ok(LineFault::Unread(fault)),
     }
 }

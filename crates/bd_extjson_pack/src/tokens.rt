@@ -1,17 +1,17 @@
 //! The bytes of a document straight from the tokens of its text, without a tree. A text is refused only if it means no document.
-ghost use Rattle.std.specs.Prelude.{◌≡◌, ◌<◌, ◌≤◌, ◌++◌, ℕ, List, length, Some, IfOk, IfErr, OnOk, option_map, false};
+ghost use Rattle.std.specs.Prelude.{◌≡◌, ◌<◌, ◌≤◌, ◌+◌, ◌++◌, ℕ, List, length, Some, None, IfOk, IfErr, OnOk, option_map, false};
 ghost use Rattle.bd_value.specs.Limits.{longest_document, most_brackets, most_levels};
 ghost use Rattle.json.specs.Json.{value, items, members};
 ghost use Rattle.bd_value.specs.Tree as trees;
 ghost use Rattle.bd_value.specs.Tree.{Doc, leaf, doc, array};
 ghost use Rattle.bd_value.specs.View.{kind_of, tree_of};
 ghost use Rattle.bd_value.specs.Fits.{zero_in};
-ghost use Rattle.bd_bson_write.specs.TreeBytes.{bytes_of};
+ghost use Rattle.bd_bson_write.specs.TreeBytes.{OverrunsLimit, bytes_of};
 ghost use Rattle.bd_extjson.specs.Read.{reading, bare_number, wrap, wrap_items, wrap_object, wrap_fields};
 ghost use Rattle.bd_extjson_wrapper.specs.Wrapper.{through, after_key, wrapper_of};
 ghost use Rattle.bd_extjson_wrapper.specs.WholeNumber.{whole_64};
 ghost use Rattle.bd_extjson_pack.specs.Packable.{plain, IsPackable};
-ghost use Rattle.bd_extjson_pack.specs.inside.Writes.{Writes, NotRead, if_document, alone};
+ghost use Rattle.bd_extjson_pack.specs.inside.Writes.{Writes, NotWritten, if_document, alone};
 ghost use Rattle.json.specs.Find.{as_str};
 ghost use Rattle.json.specs.Token.{Token as JsonToken};
 
@@ -26,7 +26,7 @@ use json::{Reader, Scratch, Token};
 use std::alloc::Global;
 
 /// Replaces the contents of `out` by the bytes of the document that the text is. Its tokens are read only if it is not
-/// canonical text: out of memory, and too many bytes, are the answer at once.
+/// canonical text, or has too many bytes: out of memory is the answer at once.
 pub(crate) fn spell_line(
     alloc: Global,
     text: &str,
@@ -35,15 +35,19 @@ pub(crate) fn spell_line(
 ) -> Result<(), Refusal>
     ensures spelled { OnOk result
         ((d : Doc) × IsPackable text.now d × (out.new.items ≡ plain d)) }
-    ensures refused { IfErr result (λ e. NotRead e (reading text.now)) }
+    ensures refused { IfErr result (λ e. NotWritten
+        (λ d. length (plain d)) e (reading text.now)) }
 {
     out.clear();
     match append_canonical(text, out) {
-        Err(Refusal::Unread) => {
+        Ok(()) => Ok(()),
+        Err(Refusal::Unwritten(WriteFault::NoMemory)) => Err(Refusal::Unwritten(
+            WriteFault::NoMemory,
+        )),
+        Err(_) => {
             out.clear();
             append_document(alloc, text, scratch, out)
         }
-        answer => answer,
     }
 }
 
@@ -56,7 +60,8 @@ fn append_document(
 ) -> Result<(), Refusal>
     ensures spelled { OnOk result ((d : Doc)
         × IsPackable text.now d × (out.new.items ≡ out.old.items ++ plain d)) }
-    ensures refused { IfErr result (λ e. NotRead e (reading text.now)) }
+    ensures refused { IfErr result (λ e. NotWritten
+        (λ d. length out.old.items + length (plain d)) e (reading text.now)) }
 {
     let mut reader = Reader::new(text, scratch)?;
     append_first(alloc, &mut reader, out)?;
@@ -68,8 +73,8 @@ fn append_document(
 
 /// Appends the document that the next value is, and returns its kind.
 fn append_first(alloc: Global, reader: &mut Reader<'_>, out: &mut Vec<u8>) -> Result<Kind, Refusal>
-    ensures gives { Writes (λ kind fs. (kind ≡ Kind.Doc)
-        × (out.new.items ≡ out.old.items ++ bytes_of (doc fs))) reader.new
+    ensures gives { Writes (λ _. Kind.Doc) (λ fs. bytes_of (doc fs))
+        out.old.items out.new.items reader.new
         result (if_document (through (wrap most_levels) (value most_brackets reader.old))) }
     ensures within { OnOk result (length out.new.items ≤ longest_document) }
 {
@@ -100,8 +105,8 @@ fn append_fields<'a>(
     depth: usize,
     out: &mut Vec<u8>,
 ) -> Result<Kind, Refusal>
-    ensures gives { Writes (λ kind fs. (kind ≡ Kind.Doc)
-        × (out.new.items ≡ out.old.items ++ bytes_of (doc fs))) reader.new
+    ensures gives { Writes (λ _. Kind.Doc) (λ fs. bytes_of (doc fs))
+        out.old.items out.new.items reader.new
         result (through (wrap_fields depth_left) (after_key depth (length reader.old)
         (option_map (λ s. s.now) first.entry) reader.old)) }
     ensures shorter { OnOk result (length reader.new ≤ length reader.old) }
@@ -134,8 +139,8 @@ fn append_next(
     depth: usize,
     out: &mut Vec<u8>,
 ) -> Result<Kind, Refusal>
-    ensures gives { Writes (λ kind t. (kind ≡ kind_of t)
-        × (out.new.items ≡ out.old.items ++ bytes_of t)) reader.new
+    ensures gives { Writes kind_of bytes_of
+        out.old.items out.new.items reader.new
         result (through (wrap depth_left) (value depth reader.old)) }
     ensures shorter { OnOk result (length reader.new < length reader.old) }
 {
@@ -172,8 +177,8 @@ fn append_items(
     depth: usize,
     out: &mut Vec<u8>,
 ) -> Result<Kind, Refusal>
-    ensures gives { Writes (λ kind ts. (kind ≡ Kind.Array)
-        × (out.new.items ≡ out.old.items ++ bytes_of (array ts))) reader.new
+    ensures gives { Writes (λ _. Kind.Array) (λ ts. bytes_of (array ts))
+        out.old.items out.new.items reader.new
         result (through (wrap_items depth_left)
         (items (value depth) (length reader.old) reader.old)) }
     ensures shorter { OnOk result (length reader.new < length reader.old) }
@@ -184,9 +189,7 @@ fn append_items(
         let element = begin_item(index, out)?;
         let kind = append_next(alloc, reader, depth_left, depth, out)?;
         end_element(element, kind, out);
-        index = index
-            .checked_add(1)
-            .ok_or(Refusal::Unwritten(WriteFault::TooLong))?;
+        index += 1;
     }
     end_body(at, out)?;
     Ok(Kind::Array)
@@ -203,8 +206,8 @@ fn append_object(
     depth: usize,
     out: &mut Vec<u8>,
 ) -> Result<Kind, Refusal>
-    ensures gives { Writes (λ kind t. (kind ≡ kind_of t)
-        × (out.new.items ≡ out.old.items ++ bytes_of t)) reader.new
+    ensures gives { Writes kind_of bytes_of
+        out.old.items out.new.items reader.new
         result (through (wrap_object depth_left)
         (members (value depth) (length reader.old) reader.old)) }
     ensures shorter { OnOk result (length reader.new < length reader.old) }
@@ -232,8 +235,8 @@ fn append_wrapper(
 ) -> Result<Kind, Refusal>
     requires { (first : List ℕ) × (wrapper_of first ≡ Some wrapper) }
     ensures gives { (first : List ℕ) → wrapper_of first ≡ Some wrapper →
-        Writes (λ kind t. (kind ≡ kind_of t)
-        × (out.new.items ≡ out.old.items ++ bytes_of t)) reader.new
+        Writes kind_of bytes_of
+        out.old.items out.new.items reader.new
         result (through (wrap_object depth_left)
         (after_key depth (length reader.old) (Some first) reader.old)) }
     ensures shorter { OnOk result (length reader.new < length reader.old) }
@@ -267,8 +270,8 @@ fn append_wrapped(
 ) -> Result<Kind, Refusal>
     requires { (first : List ℕ) × (wrapper_of first ≡ Some wrapper) }
     ensures gives { (first : List ℕ) → wrapper_of first ≡ Some wrapper →
-        Writes (λ kind t. (kind ≡ kind_of t)
-        × (out.new.items ≡ out.old.items ++ bytes_of t)) reader.new
+        Writes kind_of bytes_of
+        out.old.items out.new.items reader.new
         result (through (wrap_object depth_left)
         (after_key depth (length reader.old) (Some first) reader.old)) }
     ensures shorter { OnOk result (length reader.new < length reader.old) }
@@ -283,8 +286,10 @@ fn append_wrapped(
 /// Appends a value that was read, and drops it. The numbers that are read most are written at once. Returns its kind.
 fn append_read(value: Value, out: &mut Vec<u8>) -> Result<Kind, WriteFault>
     requires { zero_in (tree_of value) ≡ false }
-    ensures { IfOk result (λ kind. (kind ≡ kind_of (tree_of value))
+    ensures ok { IfOk result (λ kind. (kind ≡ kind_of (tree_of value))
         × (out.new.items ≡ out.old.items ++ bytes_of (tree_of value))) }
+    ensures fault { IfErr result
+        (OverrunsLimit (length out.old.items + length (bytes_of (tree_of value)))) }
 {
     match value {
         Value::Int32(n) => append_leaf(Kind::Int32, Scalar::Int32(n), out),
@@ -302,8 +307,9 @@ fn append_read(value: Value, out: &mut Vec<u8>) -> Result<Kind, WriteFault>
 fn only_string<'a>(reader: &mut Reader<'a>) -> Result<&'a str, Refusal>
     ensures gives { IfOk result (λ s. (name : List ℕ) (depth : ℕ) → through (alone as_str)
         (after_key depth (length reader.old) (Some name) reader.old) ≡ Some (s.now, reader.new)) }
-    ensures refused { IfErr result (λ e. (name : List ℕ) (depth : ℕ) → NotRead e (through
-        (alone as_str) (after_key depth (length reader.old) (Some name) reader.old))) }
+    ensures refused { IfErr result (λ e. (e ≡ Refusal.Unread)
+        × ((name : List ℕ) (depth : ℕ) → through (alone as_str)
+        (after_key depth (length reader.old) (Some name) reader.old) ≡ None)) }
     ensures shorter { OnOk result (length reader.new < length reader.old) }
 {
     let Some(token) = reader.next() else {

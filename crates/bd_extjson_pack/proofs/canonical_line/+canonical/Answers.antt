@@ -20,7 +20,7 @@ append_fields-loop-next-preserved t c =
     let k = field.0 in
     let g = c.in_ok-kind.ensures in
     let v = g.0 in
-    let begun = c.in_ok-element.ensures in
+    let begun = c.in_ok-element.ensures.ok in
     let put = bodies.element_put l.out.items c.begin_element.new.out.items c.append_next.new.out.items c.end_element.new.out.items c.in_ok-element.element c.in_ok-kind.kind 34 k v
     begun.0 (begun.1 k 34 34 (c.as_bytes.ensures.value ∙ field.2)) g.3 g.4 c.end_element.ensures in
     let whole = c.args.text.now in
@@ -40,7 +40,7 @@ append_fields-loop-next-preserved t c =
 pub append_fields-end_element-requires : goal.append_fields-end_element-requires
 append_fields-end_element-requires t c =
     let field = of_some _ _ _ c.in_ok-name.ensures.ok_part c.field_name.ensures in
-    let begun = c.in_ok-element.ensures in
+    let begun = c.in_ok-element.ensures.ok in
     let g = c.in_ok-kind.ensures in
     let inside = bodies.element_inside c.loop-next.out.items c.begin_element.new.out.items c.append_next.new.out.items c.in_ok-element.element 34 field.0 g.0
     begun.0 (begun.1 field.0 34 34 (c.as_bytes.ensures.value ∙ field.2)) g.4 in
@@ -70,7 +70,7 @@ append_items-loop-next-smaller t c =
 
 pub append_items-end_element-requires : goal.append_items-end_element-requires
 append_items-end_element-requires t c =
-    let begun = c.in_ok-element.ensures in
+    let begun = c.in_ok-element.ensures.ok in
     let g = c.in_ok-kind.ensures in
     let inside = bodies.element_inside c.loop-next.out.items c.begin_item.new.out.items c.append_next.new.out.items c.in_ok-element.element begun.1.0 (decimal c.loop-next.index) g.0 begun.0 begun.1.1 g.4 in
     search rules
@@ -81,7 +81,7 @@ append_items-loop-next-preserved t c =
     let ts = l.invariant.0 in
     let g = c.in_ok-kind.ensures in
     let v = g.0 in
-    let begun = c.in_ok-element.ensures in
+    let begun = c.in_ok-element.ensures.ok in
     let put = bodies.element_put l.out.items c.begin_item.new.out.items c.append_next.new.out.items c.end_element.new.out.items c.in_ok-element.element c.in_ok-kind.kind begun.1.0 (decimal l.index) v
     begun.0 begun.1.1 g.3 g.4 c.end_element.ensures in
     let whole = c.args.text.now in

@@ -11,4 +11,4 @@ returns c =
     let payload = c.in_ok-payload.payload.items in
     let bytes = c.in_ok-payload.ensures.decoded in
     scalar_value c.args.text.now c.in_ok-subtype.rest.now c.args.out.now.items c.append_leaf.new.out.items _ (trees.binary k payload)
-    (trees.binary k c.deref.result.now) (ap (λ bytes. trees.binary k bytes) c.deref.ensures.value) (read payload bytes.0) (search rules, bytes.1) refl c.in_ok-append_leaf.ensures.0 c.in_ok-append_leaf.ensures.1
+    (trees.binary k c.deref.result.now) (ap (λ bytes. trees.binary k bytes) c.deref.ensures.value) (read payload bytes.0) (search rules, bytes.1) refl c.in_ok-append_leaf.ensures.ok.0 c.in_ok-append_leaf.ensures.ok.1

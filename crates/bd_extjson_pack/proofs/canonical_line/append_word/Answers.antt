@@ -9,13 +9,13 @@ use Rattle.bd_extjson_pack.proofs.canonical_line.append_word.Goals as goal
 pub returns-in-Some : goal.returns-in-Some
 unfolding scalar_text
 returns-in-Some c =
-    let put = c.in_ok-append_leaf.ensures in
+    let put = c.in_ok-append_leaf.ensures.ok in
     (leaf (trees.boolean true), c.in-Some.ensures, leaf_canonical (trees.boolean true) tt refl, put.0, put.1)
 
 pub returns-in-Some-after_word : goal.returns-in-Some-after_word
 unfolding scalar_text
 returns-in-Some-after_word c =
-    let put = c.in_ok-append_leaf-2.ensures in
+    let put = c.in_ok-append_leaf-2.ensures.ok in
     (leaf (trees.boolean false), c.in-Some-after_word.ensures, leaf_canonical (trees.boolean false) tt refl, put.0, put.1)
 
 pub returns : goal.returns

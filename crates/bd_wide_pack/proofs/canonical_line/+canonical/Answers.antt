@@ -22,7 +22,7 @@ append_fields-loop-next-preserved t c =
     let field = of_some _ _ _ c.in_ok-name.ensures.ok_part c.field_name.ensures in
     let k = field.0 in
     let g = c.in_ok-type_byte.ensures in
-    let begun = c.in_ok-element.ensures in
+    let begun = c.in_ok-element.ensures.ok in
     let put = lines.element_put l.out.items c.begin_element.new.out.items c.append_next.new.out.items c.put_type.new.out.items c.in_ok-element.element c.in_ok-type_byte.type_byte 34 k g.2
     begun.0 (begun.1 k 34 34 (c.as_bytes.ensures.value ∙ field.2)) g.5 c.put_type.ensures in
     let whole = c.args.text.now in
@@ -44,7 +44,7 @@ append_fields-loop-next-preserved t c =
 pub append_fields-put_type-requires : goal.append_fields-put_type-requires
 append_fields-put_type-requires t c =
     let field = of_some _ _ _ c.in_ok-name.ensures.ok_part c.field_name.ensures in
-    let begun = c.in_ok-element.ensures in
+    let begun = c.in_ok-element.ensures.ok in
     let g = c.in_ok-type_byte.ensures in
     let inside = lines.element_inside c.loop-next.out.items c.begin_element.new.out.items c.append_next.new.out.items c.in_ok-element.element 34 field.0 g.2
     begun.0 (begun.1 field.0 34 34 (c.as_bytes.ensures.value ∙ field.2)) g.5 in
@@ -74,7 +74,7 @@ append_items-loop-next-smaller t c =
 
 pub append_items-put_type-requires : goal.append_items-put_type-requires
 append_items-put_type-requires t c =
-    let begun = c.in_ok-element.ensures in
+    let begun = c.in_ok-element.ensures.ok in
     let g = c.in_ok-type_byte.ensures in
     let inside = lines.element_inside c.loop-next.out.items c.begin_item.new.out.items c.append_next.new.out.items c.in_ok-element.element begun.1.0 (decimal c.loop-next.index) g.2 begun.0 begun.1.1 g.5 in
     search rules
@@ -85,7 +85,7 @@ append_items-loop-next-preserved t c =
     let inv = l.invariant in
     let ts = inv.0 in
     let g = c.in_ok-type_byte.ensures in
-    let begun = c.in_ok-element.ensures in
+    let begun = c.in_ok-element.ensures.ok in
     let put = lines.element_put l.out.items c.begin_item.new.out.items c.append_next.new.out.items c.put_type.new.out.items c.in_ok-element.element c.in_ok-type_byte.type_byte begun.1.0 (decimal l.index) g.2
     begun.0 begun.1.1 g.5 c.put_type.ensures in
     let whole = c.args.text.now in
