@@ -92,7 +92,8 @@ fn append_wrapped(bits: u64, out: &mut Vec<u8>, end: usize) -> End
 #[inline(always)]
 fn put_double_in(bits: u64, out: &mut Vec<u8>, end: usize) -> usize
     requires { end + VALUE ≤ length out.old.items }
-    ensures appended { Adds (IsDoubleText bits) (take end out.old.items) (take result out.new.items) }
+    ensures appended { Adds (IsDoubleText bits)
+        (take end out.old.items) (take result out.new.items) }
     ensures within { result ≤ length out.new.items }
 {
     put_double(bits, out.as_mut_slice(), end)

@@ -67,6 +67,7 @@ sized_if (fin true zero e) bits number is a b c d = absurd (b (sym is ∙ zero_b
 sized_if (fin false zero e) bits number is a b c d = absurd (a (sym is ∙ zero_bits false e))
 sized_if (fin s (suc m) e) bits number is a b c d = omega arith
 
+-- bits that are neither a zero, an infinity nor a NaN are those of a number other than zero
 pub sized : (bits : ℕ) → bits < 2 ^ 64 → bits ≢ 0 → bits ≢ 0x8000_0000_0000_0000 → bits ≢ 0x7FF0_0000_0000_0000 → bits ≢ 0xFFF0_0000_0000_0000
     → bits % 0x8000_0000_0000_0000 ≤ 0x7FF0_0000_0000_0000 → IsSized (of_bits binary64 bits)
 sized bits inside a b c d few =
@@ -79,9 +80,11 @@ sized_number nan h = absurd h
 sized_number (inf s) h = absurd h
 sized_number (fin s m e) h = (refl, search rules)
 
+-- the bits of a number other than zero are no NaN
 pub sized_bits : (bits : ℕ) → IsSized (of_bits binary64 bits) → T (not (nan_bits binary64 bits))
 sized_bits bits h = subst (λ (t : Bool). T (not t)) (sym (nan_bits_is binary64 bits ∙ (sized_number (of_bits binary64 bits) h).0)) tt
 
+-- a number other than zero is finite
 pub sized_finite : (x : Float) → IsSized x → IsTrue (float_is_finite x)
 sized_finite x h = (sized_number x h).1
 
