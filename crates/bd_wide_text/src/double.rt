@@ -145,7 +145,7 @@ fn put_scientific(
     end: usize,
 ) -> usize
     requires some { 0 < length digits.now }
-    requires few { length digits.now + length more.now + length power.now ≤ 28 }
+    requires short { length digits.now + length more.now + length power.now ≤ 28 }
     requires space { end + 32 ≤ length buffer.old }
     ensures appended { take result buffer.new ≡ take end buffer.old
         ++ (mantissa (digits.now ++ more.now) ++ (sign.now ++ padded power.now)) }
@@ -163,7 +163,7 @@ fn put_scientific(
 /// Writes a number below 1: as it is, or with the power of ten if there are more than three zeros before its digits.
 fn put_small(size: &[u8], fraction: &[u8], zeros: usize, buffer: &mut [u8], end: usize) -> usize
     requires zeros { zeros ≤ length fraction.now }
-    requires few { (length size.now ≤ 25) × (length fraction.now ≤ 24) }
+    requires short { (length size.now ≤ 25) × (length fraction.now ≤ 24) }
     requires space { end + 32 ≤ length buffer.old }
     ensures appended { take result buffer.new
         ≡ take end buffer.old ++ small_text size.now fraction.now zeros }
@@ -189,7 +189,7 @@ fn put_large(
 ) -> usize
     requires whole { (0 < count) × (count ≤ length whole.now) }
     requires fraction { 0 < length fraction.now }
-    requires few { (length size.now ≤ 25) × (length whole.now + length fraction.now ≤ 24) }
+    requires short { (length size.now ≤ 25) × (length whole.now + length fraction.now ≤ 24) }
     requires space { end + 32 ≤ length buffer.old }
     ensures appended { take result buffer.new
         ≡ take end buffer.old ++ large_text size.now whole.now fraction.now count }

@@ -53,8 +53,8 @@ returns-else-whole-eq48-clause-appended c =
     let after : AreZerosAfter p.whole c.without_zeros.result = subst (λ (y : List ℕ). AreZerosAfter y c.without_zeros.result) w c.without_zeros.ensures in
     (_, layouts.large c.args.size.now p c.without_zeros.result c.requires.parts none after first, c.put_large.ensures.appended ∙ (λ i. take c.args.end c.args.buffer.now ++ large_text c.args.size.now (w i) (f i) c.without_zeros.result))
 
-pub put_scientific-requires-clause-few : goal.put_scientific-requires-clause-few
-put_scientific-requires-clause-few c =
+pub put_scientific-requires-clause-short : goal.put_scientific-requires-clause-short
+put_scientific-requires-clause-short c =
     let p = scan c.args.size.now in
     let is = c.scan-numeral.ensures.parts in
     let w : c.whole-whole.result.now ≡ p.whole = c.whole-whole.ensures.value ∙ ap (λ (n : Parts). n.whole) is in
@@ -62,8 +62,8 @@ put_scientific-requires-clause-few c =
     let x : c.exponent-exponent.result.now ≡ p.exponent = c.exponent-exponent.ensures.value ∙ ap (λ (n : Parts). n.exponent) is in
     omega (arith, layouts.few_all c.args.size.now p c.requires.parts, ap (λ (y : List ℕ). length y) w, ap (λ (y : List ℕ). length y) f, ap (λ (y : List ℕ). length y) x)
 
-pub put_scientific-requires-then-not-is_empty-clause-few : goal.put_scientific-requires-then-not-is_empty-clause-few
-put_scientific-requires-then-not-is_empty-clause-few c =
+pub put_scientific-requires-then-not-is_empty-clause-short : goal.put_scientific-requires-then-not-is_empty-clause-short
+put_scientific-requires-then-not-is_empty-clause-short c =
     let p = scan c.args.size.now in
     let is = c.scan-numeral.ensures.parts in
     let w : c.whole-whole.result.now ≡ p.whole = c.whole-whole.ensures.value ∙ ap (λ (n : Parts). n.whole) is in
@@ -71,15 +71,15 @@ put_scientific-requires-then-not-is_empty-clause-few c =
     let x : c.exponent-exponent.result.now ≡ p.exponent = c.exponent-exponent.ensures.value ∙ ap (λ (n : Parts). n.exponent) is in
     omega (arith, layouts.few_all c.args.size.now p c.requires.parts, ap (λ (y : List ℕ). length y) w, ap (λ (y : List ℕ). length y) f, ap (λ (y : List ℕ). length y) x)
 
-pub put_small-requires-clause-few : goal.put_small-requires-clause-few
-put_small-requires-clause-few c =
+pub put_small-requires-clause-short : goal.put_small-requires-clause-short
+put_small-requires-clause-short c =
     let p = scan c.args.size.now in
     let is = c.scan-numeral.ensures.parts in
     let f : c.fraction-fraction.result.now ≡ p.fraction = c.fraction-fraction.ensures.value ∙ ap (λ (n : Parts). n.fraction) is in
     (c.requires.parts.short, omega (arith, layouts.few_parts c.args.size.now p c.requires.parts, ap (λ (y : List ℕ). length y) f))
 
-pub put_large-requires-clause-few : goal.put_large-requires-clause-few
-put_large-requires-clause-few c =
+pub put_large-requires-clause-short : goal.put_large-requires-clause-short
+put_large-requires-clause-short c =
     let p = scan c.args.size.now in
     let is = c.scan-numeral.ensures.parts in
     let w : c.whole-whole.result.now ≡ p.whole = c.whole-whole.ensures.value ∙ ap (λ (n : Parts). n.whole) is in
