@@ -211,7 +211,7 @@ module _ (size : List ℕ) (p : Parts) (parts : AreParts size p) (big : 10 ^ 6 *
       let n : digits_of p * 10 ^ tens_up p ≡ digits_of p = ap (λ k. digits_of p * 10 ^ k) none ∙ mul-one (digits_of p) in
       let d : 10 ^ tens_down p ≡ 10 ^ (length p.fraction + e) = ap (λ k. 10 ^ k) below in
       let l : 10 ^ length (p.whole ++ p.fraction) ≡ 10 ^ (1 + length p.fraction) = ap (λ k. 10 ^ k) (far_digits size p parts far).1 in
-      let room = tens_le 1 1 (1 + length p.fraction) 4 (length p.fraction + e) 0 (omega arith) (omega arith) in
+      let ordered = tens_le 1 1 (1 + length p.fraction) 4 (length p.fraction + e) 0 (omega arith) (omega arith) in
       tiny (omega (arith, digits_value-lt 10 (p.whole ++ p.fraction) digits_are))
   no_power false sign far =
       let e = (parts.layout.far far).0 in
@@ -226,7 +226,7 @@ module _ (size : List ℕ) (p : Parts) (parts : AreParts size p) (big : 10 ^ 6 *
       let l : 10 ^ (length (p.whole ++ p.fraction) - 1) ≡ 10 ^ length p.fraction = ap (λ k. 10 ^ k) {x = length (p.whole ++ p.fraction) - 1} {y = length p.fraction} (omega arith) in
       let n : digits_of p * 10 ^ tens_up p ≡ digits_of p * 10 ^ e = ap (λ k. digits_of p * 10 ^ k) above in
       let d : 10 ^ tens_down p ≡ 10 ^ length p.fraction = ap (λ k. 10 ^ k) below in
-      let room = tens_le 1 1 6 (length p.fraction) (length p.fraction) e (omega arith) (omega arith) in
+      let ordered = tens_le 1 1 6 (length p.fraction) (length p.fraction) e (omega arith) (omega arith) in
       let scaled : 10 ^ length p.fraction * 10 ^ e ≤ digits_of p * 10 ^ e = mul-le-mul_right (10 ^ e) (omega arith) in
       big (omega arith)
 
@@ -246,7 +246,7 @@ module _ (size : List ℕ) (p : Parts) (parts : AreParts size p) (big : 10 ^ 6 *
             let l : 10 ^ length (drop count p.fraction) ≡ 10 ^ (length p.fraction - count) = ap (λ k. 10 ^ k) long in
             let n : digits_of p * 10 ^ tens_up p ≡ digits_of p = ap (λ k. digits_of p * 10 ^ k) is.up ∙ mul-one (digits_of p) in
             let d : 10 ^ tens_down p ≡ 10 ^ length p.fraction = ap (λ k. 10 ^ k) is.down in
-            let room = tens_le 1 1 (length p.fraction - count) 4 (length p.fraction) 0 (omega arith) (omega (arith, before.within)) in
+            let ordered = tens_le 1 1 (length p.fraction - count) 4 (length p.fraction) 0 (omega arith) (omega (arith, before.within)) in
             absurd (tiny (omega arith))
       ]
 
@@ -264,7 +264,7 @@ module _ (size : List ℕ) (p : Parts) (parts : AreParts size p) (big : 10 ^ 6 *
             let most = leading_large (p.whole ++ p.fraction) digits_are (omega arith) first_is in
             let n : digits_of p * 10 ^ tens_up p ≡ digits_of p = ap (λ k. digits_of p * 10 ^ k) is.up ∙ mul-one (digits_of p) in
             let d : 10 ^ tens_down p ≡ 10 ^ length p.fraction = ap (λ k. 10 ^ k) is.down in
-            let room = tens_le 1 1 6 (length p.fraction) (length (p.whole ++ p.fraction) - 1) 0 (omega arith) (omega arith) in
+            let ordered = tens_le 1 1 6 (length p.fraction) (length (p.whole ++ p.fraction) - 1) 0 (omega arith) (omega arith) in
             absurd (big (omega arith))
       ]
 
@@ -307,6 +307,6 @@ plain_text bits text fits middling parses laid short =
 -- a part of a buffer was written, and its first n bytes count
 pub placed : (a ys : List ℕ) (i k n : ℕ) → i ≤ length a → n ≤ length ys → take (i + n) (put_mid i k a ys) ≡ take i a ++ take n ys
 placed a ys i k n fits few =
-    let front = length-take-le i a fits in
+    let as_long = length-take-le i a fits in
     sym (take-take (i + n) (i + length ys) (put_mid i k a ys) (omega arith)) ∙ ap (take (i + n)) (take-put_mid i k a ys (i + length ys) refl fits) ∙ take-add i n (take i a ++ ys)
-    ∙ (λ j. take_at (take i a) ys i front j ++ take n (drop_at (take i a) ys i front j))
+    ∙ (λ j. take_at (take i a) ys i as_long j ++ take n (drop_at (take i a) ys i as_long j))
