@@ -6,6 +6,7 @@ pub mod RowLemmas
 pub mod MemberLemmas
 pub mod TreeJsonLemmas
 pub mod TextLemmas
+pub mod FixedLemmas
 pub mod ReadLemmas
 pub mod ByteLemmas
 pub mod StringLemmas

@@ -19,6 +19,7 @@ use Rattle.bd_extjson.proofs.ReadLemmas.{nested_is, next_name, never, refused_me
 pub unreadable : {A : Type 0} (f : json.Members → Option A) (k : List ℕ) (depth n : ℕ) (ts : List Token) → value depth ts ≡ None → through f (after_key depth n (Some k) ts) ≡ None
 unreadable f k depth n ts e = ap (λ v. through f (option_and_then (λ p. parse_map (json.member k p.0) (members (value depth) n p.1)) v)) e
 
+-- a member whose value is read, and those after it
 pub member_is : {A : Type 0} (f : json.Members → Option A) (k : List ℕ) (depth n : ℕ) (ts s : List Token) (j : Json) → value depth ts ≡ Some (j, s)
     → through f (after_key depth n (Some k) ts) ≡ through (λ ms. f (json.member k j ms)) (members (value depth) n s)
 member_is f k depth n ts s j e =
@@ -33,12 +34,14 @@ pub ended : {A : Type 0} (f : json.Members → Option A) (depth n : ℕ) (ts r :
     → through f (members (value depth) n ts) ≡ option_map (λ (a : A). (a, r)) (f json.no_members)
 ended f depth n ts r le e = ap (through f) (members_end (value depth) n ts r le e)
 
+-- at a name the members are those from it on
 pub named : {A : Type 0} (f : json.Members → Option A) (k : List ℕ) (depth n : ℕ) (ts r : List Token) → length ts ≤ n → read_key ts ≡ Some (Some k, r)
     → through f (members (value depth) n ts) ≡ through f (after_key depth (n - 1) (Some k) r)
 named f k depth n ts r le e = ap (through f) (next_name depth n ts r (Some k) le e)
 
 -- ---- the end of an object
 
+-- where an object does not end, nothing is read that needs its end
 pub not_ended : {A : Type 0} (f : json.Members → Option A) (depth n : ℕ) (ts : List Token) → length ts ≤ n → ((r : List Token) → read_key ts ≢ Some (None, r))
     → ((k : List ℕ) (j : Json) (ms : json.Members) → f (json.member k j ms) ≡ None) → through f (members (value depth) n ts) ≡ None
 not_ended f depth n ts le not h = key (read_key ts) refl
@@ -71,7 +74,7 @@ not_read r None e = refl
 not_read r (Some a) e = absurd cc
 
 -- if g gives None for the value that follows a name, and f needs it, f gives None
-unread : {A B : Type 0} (f : json.Members → Option A) (g : Json → Option B) (k : List ℕ) (depth n : ℕ) (ts : List Token) → through g (value depth ts) ≡ None
+pub unread : {A B : Type 0} (f : json.Members → Option A) (g : Json → Option B) (k : List ℕ) (depth n : ℕ) (ts : List Token) → through g (value depth ts) ≡ None
     → ((i : Json) (ms : json.Members) → g i ≡ None → f (json.member k i ms) ≡ None) → through f (after_key depth n (Some k) ts) ≡ None
 unread f g k depth n ts e h = turn (value depth ts) e
   where

@@ -12,11 +12,13 @@
 //! ```
 //!
 //! - `read`: `read_doc`, one pass over the tokens of a text.
+//! - `fixed`: values in objects such as `{"$oid":..}` that take no memory.
 //! - `laws`: what joins reading and writing.
 //!
 //! The text of a value is written by `bd_extjson_text`, whose functions are re-exported here.
 #![tactic(auto)]
 
+mod fixed;
 mod laws;
 mod read;
 

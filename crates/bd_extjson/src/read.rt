@@ -1,5 +1,5 @@
 //! The document that a text is: read from its tokens, in one pass.
-ghost use Rattle.std.specs.Prelude.{◌≡◌, ◌≢◌, ◌<◌, ◌≤◌, ◌-◌, ℕ, List, length, map, Option, Some, None, option_map, option_and_then, IfOk, IfErr, OnOk};
+ghost use Rattle.std.specs.Prelude.{◌≡◌, ◌≢◌, ◌<◌, ◌≤◌, ◌-◌, ◌⊎◌, ℕ, List, length, map, Option, Some, None, Err, option_map, option_and_then, IfOk, IfErr, OnOk};
 ghost use Rattle.json.specs.Find.{as_str};
 ghost use Rattle.json.specs.{Json.Json, Json.value, Json.items, Json.members, Json.read_key, Token.Token as JsonToken};
 ghost use Rattle.json.specs.Value.{value_view};
@@ -10,11 +10,12 @@ ghost use Rattle.bd_extjson_fault.specs.JsonFault.{IsLocated, ReportsBadUtf8};
 ghost use Rattle.bd_extjson_fault.specs.TextFault.{text_fault};
 ghost use Rattle.bd_extjson_fault.specs.declared.json_fault.JsonFaultKind.TheVariants as faults;
 ghost use Rattle.bd_extjson_wrapper.specs.WholeNumber.{whole_64};
-ghost use Rattle.bd_extjson_wrapper.specs.Wrapper.{wrapper_of, through, after_key, Fails, Gives};
+ghost use Rattle.bd_extjson_wrapper.specs.Wrapper.{wrapper_of, through, after_key, Fails, Gives, TakesMemory};
 ghost use Rattle.bd_extjson_wrapper.specs.declared.wrapper.Trouble.TheVariants as troubles;
 ghost use Rattle.bd_extjson_wrapper.specs.declared.wrapper.Wrapper.TheVariants as kinds;
 ghost use Rattle.bd_extjson.specs.Read.{ReadsAs, json, reading, document, bare_number, with_scope, wrap, wrap_items, wrap_object, wrapped, wrap_fields};
 
+use crate::fixed::{read_fixed, takes_memory};
 use bd_extjson_fault::{JsonFault, JsonFaultKind, diagnose, text_of};
 use bd_extjson_wrapper::{Trouble, Wrapper, names_code, names_scope, unwrap_single, whole};
 use bd_value::{Document, MOST_BRACKETS, MOST_LEVELS, Value, has_zero};
@@ -249,9 +250,15 @@ pub fn read_wrapper(
         wrapper_of name ≡ Some wrapper → Gives (λ v. (tree_of v, reader.new)) result (through
         (wrap_object depth_left) (after_key depth (length reader.old) (Some name) reader.old)) }
     ensures shorter { OnOk result (length reader.new < length reader.old) }
+    // Memory runs out only for a value with a text or data, or for code with scope.
+    ensures memory { result ≡ Err troubles.Memory →
+        TakesMemory wrapper ⊎ (wrapper ≡ kinds.Scope) }
 {
     if wrapper.is_scope() {
         return read_scope_first(alloc, reader, depth_left, depth);
+    }
+    if !takes_memory(wrapper) {
+        return read_fixed(alloc, reader, wrapper, depth).ok_or(Trouble::Refused);
     }
     let part = read_part(alloc, reader, depth)?;
     let Some(second) = reader.next_key()? else {
@@ -359,10 +366,10 @@ fn read_part<'a>(alloc: Global, reader: &mut Reader<'a>, depth: usize) -> Read<j
 }
 
 /// The brace that ends an object.
-fn end_object(reader: &mut Reader<'_>) -> Read<()>
+pub(crate) fn end_object(reader: &mut Reader<'_>) -> Read<()>
     ensures ended { OnOk result (read_key reader.old ≡ Some (None, reader.new)) }
-    ensures refused { IfErr result (λ e. e ≡ troubles.Refused →
-        (r : List JsonToken) → read_key reader.old ≢ Some (None, r)) }
+    ensures refused { IfErr result (λ e. (e ≡ troubles.Refused)
+        × ((r : List JsonToken) → read_key reader.old ≢ Some (None, r))) }
     ensures shorter { OnOk result (length reader.new < length reader.old) }
 {
     match reader.next_key()? {

@@ -147,7 +147,7 @@ read_scope_second-returns-in_err-end_object-clause-gives t c = λ n u le.
     let less : length r ≤ n = omega (arith, le, c.in_ok-scope.ensures.shorter) in
     rw (p.1, p.2) (steps.fails_where c.in_err-end_object.field-0.0 _
     (λ e. seconds.scope_unended c.args.second.now c.args.depth_left c.args.depth n c.args.reader.now r (value_view c.args.code.now) u
-    (tree_of c.in_ok-scope.scope) (sym c.if-not-names_scope.ensures) c.in_ok-scope.ensures.gives less (c.in_err-end_object.ensures.refused e)))
+    (tree_of c.in_ok-scope.scope) (sym c.if-not-names_scope.ensures) c.in_ok-scope.ensures.gives less (c.in_err-end_object.ensures.refused.1)))
 
 pub read_scope_second-returns-clause-gives : goal.read_scope_second-returns-clause-gives
 read_scope_second-returns-clause-gives t c = λ n u le.

@@ -43,7 +43,7 @@ returns-in_err-end_object-clause-none c =
     let less : length s ≤ n - 1 = omega (arith, le, shorter, c.in_ok-code.ensures.shorter) in
     fails_where c.in_err-end_object.field-0.0 _
     (λ e. seconds.code_unended c.in-Some.second.now depth_left c.args.depth n c.args.reader.now r s j
-    (value_view c.in_ok-code.code) t le key c.in_ok-code.ensures.gives less (c.in_err-end_object.ensures.refused e)))
+    (value_view c.in_ok-code.code) t le key c.in_ok-code.ensures.gives less (c.in_err-end_object.ensures.refused.1)))
 
 pub returns-clause-code : goal.returns-clause-code
 returns-clause-code c = λ n depth_left j u le h.
