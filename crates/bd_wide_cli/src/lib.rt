@@ -1,6 +1,6 @@
 //! The commands of `bsonwide`.
 //!
-//! What a run of each command prints: `specs/Command.antt`.
+//! The command that arguments mean, and what a run of each command prints: `specs/Command.antt`.
 //!
 //! An example, which `bd_wide_tests` proves and runs as `examples::dumped`:
 //!
@@ -11,18 +11,14 @@
 //! let mut out = MemoryOutput::new(&mut buffer, 100, None);
 //! let mut reported = [0; 100];
 //! let mut err = MemoryOutput::new(&mut reported, 100, None);
-//! let command = Command::Dump(LayoutOptions {
-//!     output: None,
-//!     format: None,
-//!     fields: None,
-//!     no_id: false,
-//!     no_header: false,
-//!     is_array: false,
-//!     is_pretty: false,
-//! });
+//! let mut words = Vec::new(alloc);
+//! words.push(String::from_str(alloc, "dump")?)?;
+//! words.push(String::from_str(alloc, "people.bson")?)?;
+//! let order = parse(alloc, &words)?;
+//! assert!(rt; file_of(&order) == "people.bson");
 //! let status = run(
 //!     alloc,
-//!     &command,
+//!     &order,
 //!     None,
 //!     &mut input,
 //!     &mut commands,
@@ -33,7 +29,7 @@
 //! assert!(rt; out.bytes() == b"{}\n".as_slice());
 //! ```
 //!
-//! - `command`: `Command`, and `run`, a whole run over devices.
+//! - `command`: `parse`, the command that arguments mean, and `run`, a whole run of one over devices.
 //! - `dump` and `find`: documents of all types, in a layout.
 //! - `pack`: the documents of all types in lines.
 //! - `laws`: what is printed as CSV is read back.
@@ -47,6 +43,6 @@ mod laws;
 mod output;
 mod pack;
 
-pub use command::{Command, is_serve, reads_first, run};
+pub use command::{file_of, is_serve, parse, query_file_of, reads_first, run};
 pub use laws::csv_is_read_back;
 pub use output::{PROGRAM, report, version};

@@ -2,13 +2,13 @@
 //! and `bd_wide_cli`, and runs of `bd_wide_cli`.
 use bd_bson_check::{Profile, check_bytes};
 use bd_bson_view::ElementType;
-use bd_cli_args::{LayoutOptions, WordsFault};
+use bd_cli_args::{LayoutOptions, WideOrder, WordsFault};
 use bd_cli_scan::Status;
 use bd_extjson_fault::{JsonFault, JsonFaultKind};
 use bd_io_device::{MemoryInput, MemoryOutput};
 use bd_wide::number_in;
 use bd_wide_advice::advice_at;
-use bd_wide_cli::{Command, is_serve, report, run, version};
+use bd_wide_cli::{file_of, is_serve, parse, report, run, version};
 use bd_wide_dump::{JsonFormat, WideTextBuffer};
 use bd_wide_layout::{JsonLayout, Layout, LayoutBuffer, go_together, read_layout};
 use bd_wide_number::{Number, code_of};
@@ -61,7 +61,7 @@ fn all_types(rt: HostRuntime) -> Result<(), Fail> {
 }
 
 #[test]
-fn dumped(rt: HostRuntime) {
+fn dumped(rt: HostRuntime) -> Result<(), Fail> {
     let alloc = rt.alloc();
     let mut input = MemoryInput::new(b"\x05\0\0\0\0", 100, None);
     let mut commands = MemoryInput::new(b"", 1, None);
@@ -69,18 +69,14 @@ fn dumped(rt: HostRuntime) {
     let mut out = MemoryOutput::new(&mut buffer, 100, None);
     let mut reported = [0; 100];
     let mut err = MemoryOutput::new(&mut reported, 100, None);
-    let command = Command::Dump(LayoutOptions {
-        output: None,
-        format: None,
-        fields: None,
-        no_id: false,
-        no_header: false,
-        is_array: false,
-        is_pretty: false,
-    });
+    let mut words = Vec::new(alloc);
+    words.push(String::from_str(alloc, "dump")?)?;
+    words.push(String::from_str(alloc, "people.bson")?)?;
+    let order = parse(alloc, &words)?;
+    assert!(rt; file_of(&order) == "people.bson");
     let status = run(
         alloc,
-        &command,
+        &order,
         None,
         &mut input,
         &mut commands,
@@ -89,6 +85,7 @@ fn dumped(rt: HostRuntime) {
     );
     assert!(rt; status == Status::Done);
     assert!(rt; out.bytes() == b"{}\n".as_slice());
+    Ok(())
 }
 
 #[test]
@@ -102,7 +99,9 @@ fn packed(rt: HostRuntime) {
     let mut err = MemoryOutput::new(&mut reported, 100, None);
     let status = run(
         alloc,
-        &Command::Pack,
+        &WideOrder::Pack {
+            file: String::new(alloc),
+        },
         None,
         &mut input,
         &mut commands,
@@ -126,10 +125,13 @@ fn served(rt: HostRuntime) {
     let mut out = MemoryOutput::new(&mut buffer, 200, None);
     let mut reported = [0; 100];
     let mut err = MemoryOutput::new(&mut reported, 100, None);
-    let command = Command::Serve { by_value: false };
+    let order = WideOrder::Serve {
+        file: String::new(alloc),
+        by_value: false,
+    };
     let status = run(
         alloc,
-        &command,
+        &order,
         None,
         &mut input,
         &mut commands,
@@ -141,7 +143,7 @@ fn served(rt: HostRuntime) {
         out.bytes()
             .ends_with(b"\"matches\":{\"$numberLong\":\"1\"}}\n")
     );
-    assert!(rt; is_serve(&command) && !is_serve(&Command::Check));
+    assert!(rt; is_serve(&order));
 }
 
 /// The output for `--help` and for `--version`.
