@@ -29,11 +29,12 @@ pub(crate) fn element_at(bytes: &[u8], at: usize) -> Option<Element<'_>>
     if byte == 0 {
         return None;
     }
+    let (_, tail) = bytes.split_at(at + 1);
+    let (name, here) = parts::name(tail);
+    // Beside the size, so that both take one jump.
     let Some(typed) = element_type(byte) else {
         unreachable!()
     };
-    let (_, tail) = bytes.split_at(at + 1);
-    let (name, here) = parts::name(tail);
     let start = at + name.len() + 2;
     let next = start + size(typed, here);
     Some(Element {
