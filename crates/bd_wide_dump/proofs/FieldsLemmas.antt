@@ -256,6 +256,10 @@ projected_there paths named bytes cleared out d is same empty added =
     let b : AddsFramed false paths w.0.fields [] out = subst (λ (x : List ℕ). AddsFramed false paths w.0.fields x out) empty a in
     projected_elements paths (fields_of d) out (subst (λ (fs : Fields). AddsFramed false paths fs [] out) w.1 b)
 
+-- the same of equal bytes
+pub same_elements : (fields : Fields) (a b : List ℕ) → (e : HasElements (drop 4 a)) × (e.fields ≡ fields) → b ≡ a → (e : HasElements (drop 4 b)) × (e.fields ≡ fields)
+same_elements fields a b has is = subst (λ (x : List ℕ). (e : HasElements (drop 4 x)) × (e.fields ≡ fields)) (sym is) has
+
 -- the text of these elements is that of what remains of the document
 pub projected_text : {E : Type 0} (format : JsonFormat) (r : Result ℕ E) (paths : List Names) (bytes old new : List ℕ) (end : ℕ) (d : Doc) → IsDocumentBy (valued raw) d bytes
     → (fs : Fields) → fs ≡ projected paths (fields_of d) → IfOk r (λ to. AppendsText format (doc fs) old end to new)

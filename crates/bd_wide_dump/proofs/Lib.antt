@@ -14,3 +14,6 @@ pub mod FollowLemmas
 pub mod PlainTextLemmas
 pub mod RowLemmas
 pub mod ReadBackLemmas
+pub mod WholeLemmas
+pub mod BareLemmas
+pub mod IndentLemmas

@@ -92,7 +92,7 @@ raw_text format type content text tree n fits h =
     let r : IsRawText format n.z text = record { kind = n.kind; value = content; fits = fits; sized = n.sized; is = n.worth; written = h } in
     subst (λ (t : Tree). IsTextOf format t text) (sym n.is) r
 
-wide_text : (format : JsonFormat) (k : NumberKind) (bytes : List ℕ) (tree : Tree) → IsWide k → AreBytes bytes → HasValue (number_type k) bytes tree
+pub wide_text : (format : JsonFormat) (k : NumberKind) (bytes : List ℕ) (tree : Tree) → IsWide k → AreBytes bytes → HasValue (number_type k) bytes tree
     → (text : List ℕ) → IsNumberText format k bytes text → IsTextOf format tree text
 wide_text format k bytes tree wide fits v text h =
     let n = of_number k v.content tree wide v.spells in
@@ -201,6 +201,7 @@ plain_there kind content tree d a c fits (an_array x) = absurd (a (cc (x.typed))
 plain_there kind content tree d a c fits (a_code x) = absurd (c (cc (x.typed)))
 
 module _ (kind : Kind) (bytes : List ℕ) (d : kind ≡ kinds.Doc → ⊥) (a : kind ≡ kinds.Array → ⊥) (c : kind ≡ kinds.CodeScope → ⊥) (fits : AreBytes bytes) where
+  -- the value as a scalar of the nineteen kinds
   pub plain_of : (tree : Tree) (v : HasValue (Kept kind) bytes tree) → Plain kind v.content tree
   plain_of tree v = plain_there kind v.content tree d a c (content_bytes bytes v.content v.after fits v.splits) v.spells
 

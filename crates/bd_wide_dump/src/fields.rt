@@ -2,11 +2,14 @@
 
 ghost use Rattle.std.specs.Prelude.{◌≡◌, ◌≤◌, ◌-◌, ◌++◌, ◌∷◌, [], ℕ, List, None, length, take, drop, IfOk, OnOk, OnErr, option_map};
 ghost use Rattle.bd_value.specs.Limits.{longest_document};
-ghost use Rattle.bd_value.specs.Tree.{Fields};
+ghost use Rattle.bd_value.specs.Tree.{Doc, Fields, fields_of};
+ghost use Rattle.bd_bson_view.specs.Spelling.{IsDocumentBy, valued};
 ghost use Rattle.bd_bson_check.specs.FirstFault.{fault_under};
 ghost use Rattle.bd_bson_check.specs.declared.profile.Profile.TheVariants.{All};
 ghost use Rattle.bd_path.specs.Path.{component_names};
-ghost use Rattle.bd_wide_dump.specs.Projected.{IsProjectedText, below, ends, projected_value, rest_below};
+ghost use Rattle.bd_wide_dump.specs.Pretty.{indented};
+ghost use Rattle.bd_wide_dump.specs.Projected.{IsProjectedText, below, ends, projected, projected_value, rest_below};
+ghost use Rattle.bd_wide_dump.specs.Raw.{raw};
 ghost use Rattle.bd_wide_dump.specs.Fields.{requested};
 ghost use Rattle.bd_wide_dump.specs.inside.Projects.{paths_of};
 ghost use Rattle.bd_wide_dump.specs.inside.Begins.{HasElements, IsElement};
@@ -14,6 +17,7 @@ ghost use Rattle.bd_wide_dump.specs.inside.Projects.{AddsElement, AddsFramed, ar
 
 use crate::element::{Element, element_at};
 use crate::format::JsonFormat;
+use crate::indent::indent_fields;
 use crate::line::append_fields;
 use bd_bson_view::ElementType;
 use bd_bson_write::{WriteFault, begin_body, end_body};
@@ -190,6 +194,23 @@ fn all_fields<'a>(alloc: Global, paths: &'a [Path]) -> Result<Vec<Field<'a>>, No
     Ok(fields)
 }
 
+/// Makes `out` the bytes of the document of the requested fields of a document of all types, whose bytes have no fault.
+fn project(alloc: Global, paths: &[Path], bytes: &[u8], out: &mut Vec<u8>) -> Result<(), NoMemory>
+    requires { (base : ℕ) × (fault_under All base bytes.now ≡ None) }
+    ensures elements { (d : Doc) → IsDocumentBy (valued raw) d bytes.now → OnOk result
+        ((e : HasElements (drop 4 out.new.items))
+        × (e.fields ≡ projected (requested paths.now) (fields_of d))) }
+    ensures short { OnOk result (length out.new.items ≤ longest_document) }
+{
+    let fields = all_fields(alloc, paths)?;
+    out.clear();
+    match append_elements(alloc, false, &fields, bytes, 4, out) {
+        Ok(()) => Ok(()),
+        // A document is no longer than before, so memory ran out.
+        Err(_) => Err(AllocError),
+    }
+}
+
 /// Appends the text of the requested fields of a document of all types, whose bytes have no fault, after the first `end` bytes of a
 /// buffer, and returns where the text ends. `projected` is a buffer for the bytes of the document of these fields.
 ///
@@ -211,13 +232,31 @@ pub fn append_projected(
     ensures within { IfOk result (λ to. to ≤ length buffer.new.items) }
     ensures err { OnErr result (take end buffer.new.items ≡ take end buffer.old.items) }
 {
-    let fields = all_fields(alloc, paths)?;
-    projected.clear();
-    match append_elements(alloc, false, &fields, bytes, 4, projected) {
-        Ok(()) => append_fields(format, projected, 4, buffer, end),
-        // A document is no longer than before, so memory ran out.
-        Err(_) => Err(AllocError),
-    }
+    project(alloc, paths, bytes, projected)?;
+    append_fields(format, projected, 4, buffer, end)
+}
+
+/// The same on many lines, with a tab for each bracket that is open. `spare` is a buffer for the text of one value.
+pub fn indent_projected(
+    alloc: Global,
+    format: JsonFormat,
+    paths: &[Path],
+    bytes: &[u8],
+    projected: &mut Vec<u8>,
+    spare: &mut Vec<u8>,
+    buffer: &mut Vec<u8>,
+    end: usize,
+) -> End
+    requires sound { (base : ℕ) × (fault_under All base bytes.now ≡ None) }
+    requires buffer { end ≤ length buffer.old.items }
+    ensures text { IfOk result (λ to. (line : List ℕ)
+        × IsProjectedText format (requested paths.now) bytes.now line
+        × (take to buffer.new.items ≡ take end buffer.old.items ++ indented line)) }
+    ensures within { IfOk result (λ to. to ≤ length buffer.new.items) }
+    ensures err { OnErr result (take end buffer.new.items ≡ take end buffer.old.items) }
+{
+    project(alloc, paths, bytes, projected)?;
+    indent_fields(format, projected, 4, 0, spare, buffer, end)
 }
 
 /// A buffer for one line after the other, of the requested fields of a document each, each line over the one before.

@@ -25,7 +25,7 @@ pub(crate) fn long(bytes: &[u8]) -> u64
 }
 
 /// Whether a double is written without a wrapper.
-fn is_bare(format: JsonFormat, bits: u64) -> bool
+pub(crate) fn is_bare(format: JsonFormat, bits: u64) -> bool
     ensures { result ≡ is_bare format (of_bits binary64 bits) }
 {
     match format {

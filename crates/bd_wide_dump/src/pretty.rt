@@ -1,8 +1,9 @@
 //! A text of JSON on many lines.
 
 ghost use Rattle.std.specs.Prelude.{◌≡◌, ◌<◌, ◌≤◌, ◌+◌, ◌++◌, ℕ, IfOk, length, take};
+ghost use Rattle.bd_value.specs.Limits.{longest_document};
 ghost use Rattle.bd_extjson_text.specs.Buffer.{Appends};
-ghost use Rattle.bd_wide_dump.specs.Pretty.{closes, gap, indented, line_end, next_place, open_after, opens};
+ghost use Rattle.bd_wide_dump.specs.Pretty.{closes, gap, laid_out, line_end, next_place, open_after, opens};
 ghost use Rattle.bd_wide_dump.specs.declared.pretty.Position.TheVariants.{Outside};
 ghost use Rattle.bd_wide_dump.specs.inside.Tokens.{IsToken, Reaches};
 
@@ -25,16 +26,18 @@ const BLOCK: usize = 32;
 /// A line end, and tabs.
 const LINE_END: [u8; 32] = *b"\n\t\t\t\t\t\t\t\t\t\t\t\t\t\t\t\t\t\t\t\t\t\t\t\t\t\t\t\t\t\t\t";
 
-/// Appends a text of JSON, such as that of a document, on many lines, with a tab for each bracket that is level, after the first
-/// `end` bytes of a buffer, and returns where it ends. There is no line end after it.
+/// Appends a text of JSON on many lines, where that many brackets are open, with a tab for each bracket that is open, after the
+/// first `end` bytes of a buffer, and returns where it ends. There is no line end after it.
 ///
 /// On `NoMemory` those `end` bytes are unchanged.
-pub fn append_pretty(text: &[u8], buffer: &mut Vec<u8>, end: usize) -> End
-    requires { end ≤ length buffer.old.items }
-    ensures { Appends buffer.old.items end result buffer.new.items (indented text.now) }
+pub(crate) fn append_pretty(base: usize, text: &[u8], buffer: &mut Vec<u8>, end: usize) -> End
+    requires level { base ≤ longest_document }
+    requires buffer { end ≤ length buffer.old.items }
+    ensures { Appends buffer.old.items end result buffer.new.items
+        (laid_out Outside base 0 text.now) }
 {
     let mut at = append_few(b"", buffer, end)?;
-    let mut level = 0;
+    let mut level = base;
     let mut before = 0;
     let mut rest = text;
     while let [byte, ..] = rest {
@@ -146,7 +149,7 @@ fn append_gap(level: usize, before: u8, after: u8, out: &mut Vec<u8>, end: usize
 
 /// Appends a line end and that many tabs.
 #[inline(always)]
-fn append_line_end(tabs: usize, out: &mut Vec<u8>, end: usize) -> End
+pub(crate) fn append_line_end(tabs: usize, out: &mut Vec<u8>, end: usize) -> End
     requires { end + VALUE ≤ length out.old.items }
     ensures text { Appends out.old.items end result out.new.items (line_end tabs) }
     ensures capacity { IfOk result (λ e. e + BLOCK ≤ length out.new.items) }

@@ -1,10 +1,9 @@
-//! Rows of CSV, and texts on many lines. The expected texts are what Python's `csv` and `json` write of fields and values that are
-//! worked by hand.
+//! Rows of CSV. The expected texts are what Python's `csv` writes of fields that are worked by hand.
 
 ghost use Rattle.std.specs.Prelude.{◌≤◌, length};
 
 use bd_bson_check::{Profile, check_bytes};
-use bd_wide_dump::{CsvBuffer, append_pretty, read_columns};
+use bd_wide_dump::{CsvBuffer, read_columns};
 use std::alloc::Global;
 use std::process::Abort;
 use std::test::Fail;
@@ -133,17 +132,5 @@ fn refused_columns(rt: HostRuntime) -> Result<(), Fail> {
     assert!(rt; read_columns(alloc, "a.b,a")?.is_none());
     assert!(rt; read_columns(alloc, "")?.is_none());
     assert!(rt; read_columns(alloc, "_id,a")?.is_some());
-    Ok(())
-}
-
-#[test]
-fn pretty(rt: HostRuntime) -> Result<(), Fail> {
-    let text = b"{\"a\":[1,{\"b\":[]},\"{,\\\":[\"],\"c\":{},\"d\":null}";
-    let mut buffer = Vec::new(rt.alloc());
-    let end = append_pretty(text, &mut buffer, 0)?;
-    assert!(rt;
-        &buffer[..end]
-            == b"{\n\t\"a\": [\n\t\t1,\n\t\t{\n\t\t\t\"b\": []\n\t\t},\n\t\t\"{,\\\":[\"\n\t],\n\t\"c\": {},\n\t\"d\": null\n}".as_slice()
-    );
     Ok(())
 }

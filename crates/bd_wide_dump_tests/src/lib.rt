@@ -6,4 +6,6 @@ mod csv_rows;
 #[cfg(test)]
 mod fields;
 #[cfg(test)]
+mod indented;
+#[cfg(test)]
 mod lines;

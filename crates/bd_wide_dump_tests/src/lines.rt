@@ -8,6 +8,10 @@ use std::alloc::Global;
 use std::process::Abort;
 use std::test::Fail;
 
+/// A document with a value of each type.
+pub(crate) const EACH_TYPE: &[u8] =
+    b"\xcd\0\0\0\x01d\0\0\0\0\0\0\0\xf8\x3f\x02s\0\x02\0\0\0a\0\x03o\0\x05\0\0\0\0\x04a\0\x05\0\0\0\0\x05b\0\x02\0\0\0\0\x01\x02\x06u\0\x07i\0\0\x01\x02\x03\x04\x05\x06\x07\x08\x09\x0a\x0b\x08t\0\x01\x09w\0\0\0\0\0\0\0\0\0\x0an\0\x0br\0p\0i\0\x0cp\0\x02\0\0\0n\0\0\x01\x02\x03\x04\x05\x06\x07\x08\x09\x0a\x0b\x0dc\0\x02\0\0\0f\0\x0ey\0\x02\0\0\0s\0\x0fk\0\x0f\0\0\0\x02\0\0\0f\0\x05\0\0\0\0\x10j\0\x07\0\0\0\x11m\0\x02\0\0\0\x01\0\0\0\x12l\0\xfe\xff\xff\xff\xff\xff\xff\xff\x13e\0\x0f\0\0\0\0\0\0\0\0\0\0\0\0\0\x3e\x30\x7fx\0\xffz\0\0";
+
 /// The document has this canonical line.
 fn line_is(rt: &impl Abort, alloc: Global, bytes: &[u8], expected: &[u8]) -> Result<(), Fail>
     requires { length bytes.now ≤ 10000 }
@@ -100,12 +104,10 @@ fn code_with_scope(rt: HostRuntime) -> Result<(), Fail> {
 
 #[test]
 fn each_type(rt: HostRuntime) -> Result<(), Fail> {
-    let bytes =
-        b"\xcd\0\0\0\x01d\0\0\0\0\0\0\0\xf8\x3f\x02s\0\x02\0\0\0a\0\x03o\0\x05\0\0\0\0\x04a\0\x05\0\0\0\0\x05b\0\x02\0\0\0\0\x01\x02\x06u\0\x07i\0\0\x01\x02\x03\x04\x05\x06\x07\x08\x09\x0a\x0b\x08t\0\x01\x09w\0\0\0\0\0\0\0\0\0\x0an\0\x0br\0p\0i\0\x0cp\0\x02\0\0\0n\0\0\x01\x02\x03\x04\x05\x06\x07\x08\x09\x0a\x0b\x0dc\0\x02\0\0\0f\0\x0ey\0\x02\0\0\0s\0\x0fk\0\x0f\0\0\0\x02\0\0\0f\0\x05\0\0\0\0\x10j\0\x07\0\0\0\x11m\0\x02\0\0\0\x01\0\0\0\x12l\0\xfe\xff\xff\xff\xff\xff\xff\xff\x13e\0\x0f\0\0\0\0\0\0\0\0\0\0\0\0\0\x3e\x30\x7fx\0\xffz\0\0";
     line_is(
         &rt,
         rt.alloc(),
-        bytes,
+        EACH_TYPE,
         b"{\"d\":{\"$numberDouble\":\"1.5\"},\"s\":\"a\",\"o\":{},\"a\":[],\"b\":{\"$binary\":{\"base64\":\"AQI=\",\"subType\":\"00\"}},\"u\":{\"$undefined\":true},\"i\":{\"$oid\":\"000102030405060708090a0b\"},\"t\":true,\"w\":{\"$date\":{\"$numberLong\":\"0\"}},\"n\":null,\"r\":{\"$regularExpression\":{\"pattern\":\"p\",\"options\":\"i\"}},\"p\":{\"$dbPointer\":{\"$ref\":\"n\",\"$id\":{\"$oid\":\"000102030405060708090a0b\"}}},\"c\":{\"$code\":\"f\"},\"y\":{\"$symbol\":\"s\"},\"k\":{\"$code\":\"f\",\"$scope\":{}},\"j\":{\"$numberInt\":\"7\"},\"m\":{\"$timestamp\":{\"t\":1,\"i\":2}},\"l\":{\"$numberLong\":\"-2\"},\"e\":{\"$numberDecimal\":\"1.5\"},\"x\":{\"$maxKey\":1},\"z\":{\"$minKey\":1}}\n",
     )
 }

@@ -5,13 +5,13 @@ use bd_bson_check::{Profile, check_bytes};
 use bd_extjson_text::End;
 use bd_path::Path;
 use bd_wide_dump::{
-    JsonFormat, append_csv_header, append_csv_row, append_pretty, append_projected, append_wide,
-    read_columns,
+    JsonFormat, append_csv_header, append_csv_row, append_projected, append_wide, indent_projected,
+    indent_wide, read_columns,
 };
 use bd_wide_text::{write_decimal128, write_double};
 use std::alloc::Global;
 
-/// What is appended: a number, a text of the document or of some fields of it, or a text on many lines.
+/// What is appended: a number, or a text of the document or of some fields of it, on one line or on many.
 #[derive(Clone, Copy)]
 enum Row {
     Double,
@@ -20,11 +20,12 @@ enum Row {
     Projected,
     CsvRow,
     CsvHeader,
-    Pretty,
+    Indented,
+    IndentedFields,
 }
 
 /// The texts of the numbers are in the corpus of MongoDB's drivers.
-const ROWS: [(Row, &[u8]); 7] = [
+const ROWS: [(Row, &[u8]); 8] = [
     (Row::Double, b"-1.2345678921232E+18"),
     (
         Row::Decimal128,
@@ -37,7 +38,14 @@ const ROWS: [(Row, &[u8]); 7] = [
     (Row::Projected, br#"{"s":"a,b","o":{"x":7}}"#),
     (Row::CsvRow, b"7,\"a,b\",\n"),
     (Row::CsvHeader, b"o.x,s,none\n"),
-    (Row::Pretty, b"{\n\t\"a\": [\n\t\t1,\n\t\t{}\n\t]\n}"),
+    (
+        Row::Indented,
+        b"{\n\t\"d\": {\n\t\t\"$numberDouble\": \"1.5\"\n\t},\n\t\"e\": {\n\t\t\"$numberDecimal\": \"1.5\"\n\t},\n\t\"s\": \"a,b\",\n\t\"o\": {\n\t\t\"x\": {\n\t\t\t\"$numberInt\": \"7\"\n\t\t}\n\t}\n}",
+    ),
+    (
+        Row::IndentedFields,
+        b"{\n\t\"s\": \"a,b\",\n\t\"o\": {\n\t\t\"x\": 7\n\t}\n}",
+    ),
 ];
 
 /// The requested fields, and the buffers of the calls.
@@ -71,7 +79,17 @@ fn append(alloc: Global, from: &mut Sources, row: Row, out: &mut Vec<u8>) -> End
         ),
         Row::CsvRow => append_csv_row(paths, DOCUMENT, &mut from.cell, out, 2),
         Row::CsvHeader => append_csv_header(paths, out, 2),
-        Row::Pretty => append_pretty(b"{\"a\":[1,{}]}", out, 2),
+        Row::Indented => { indent_wide(JsonFormat::Canonical, DOCUMENT, &mut from.cell, out, 2) }
+        Row::IndentedFields => indent_projected(
+            alloc,
+            JsonFormat::Relaxed,
+            paths,
+            DOCUMENT,
+            &mut from.projected,
+            &mut from.cell,
+            out,
+            2,
+        ),
     }
 }
 

@@ -9,7 +9,9 @@ ghost use Rattle.bd_wide_dump.specs.Pretty.{indented};
 
 use bd_extjson_text::End;
 use bd_path::Path;
-use bd_wide_dump::{JsonFormat, append_csv_row, append_pretty, append_projected, append_wide};
+use bd_wide_dump::{
+    JsonFormat, append_csv_row, append_projected, append_wide, indent_projected, indent_wide,
+};
 use std::alloc::Global;
 
 /// How the texts of documents are laid out.
@@ -48,7 +50,7 @@ pub struct CsvLayout {
 pub struct Scratch {
     /// The bytes of the requested fields.
     projected: Vec<u8>,
-    /// A text on one line, or that of a field of a row.
+    /// The text of one value.
     text: Vec<u8>,
 }
 
@@ -202,7 +204,21 @@ fn append_indented(
     ensures within { IfOk result (λ to. to ≤ length buffer.new.items) }
     ensures err { OnErr result (take end buffer.new.items ≡ take end buffer.old.items) }
 {
-    let projected = &mut scratch.projected;
-    let size = append_json(alloc, json, bytes, projected, &mut scratch.text, 0)?;
-    append_pretty(&scratch.text[..size], buffer, end)
+    let spare = &mut scratch.text;
+    match &json.paths {
+        None => indent_wide(json.format, bytes, spare, buffer, end),
+        Some(paths) => {
+            let projected = &mut scratch.projected;
+            indent_projected(
+                alloc,
+                json.format,
+                paths,
+                bytes,
+                projected,
+                spare,
+                buffer,
+                end,
+            )
+        }
+    }
 }

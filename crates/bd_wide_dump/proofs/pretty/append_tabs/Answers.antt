@@ -1,4 +1,4 @@
-use Rattle.std.proofs.Common.{List, ℕ, subst, arith}
+use Rattle.std.proofs.Common.{List, ℕ, subst}
 use Rattle.bd_extjson_text.proofs.BufferLemmas.{failed}
 use Rattle.bd_wide_dump.specs.Pretty.{line_end}
 use Rattle.bd_wide_dump.proofs.GoingLemmas as g
