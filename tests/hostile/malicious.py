@@ -490,13 +490,13 @@ def test_limits(tests: Tests) -> None:
         except BadFilter as bad:
             place = ".".join(bad.place)
         ran = tests.run(["find", "-", "--query", levels_of(name, LEVELS + 1)])
-        tests.want(f"{LEVELS + 1} levels of {name}", (ran.status, ran.told) == (1, f'bsonfind: query: place "{place}": too deep\n'), ran)
+        tests.want(f"{LEVELS + 1} levels of {name}", (ran.status, ran.told) == (1, f'{NAME}: query: place "{place}": too deep\n'), ran)
     for count, is_taken in ((100, True), (101, False)):
         path = ".".join(["a"] * count)
         for words, told in (
-            (["--query", f'{{"{path}":{{"$type":"object"}}}}'], f'bsonfind: query: place "{path}": bad path\n'),
-            (["--sort", f'{{"{path}":1}}'], "bsonfind: sort: not a sort\n"),
-            (["--index", path], "bsonfind: index: too many components\n"),
+            (["--query", f'{{"{path}":{{"$type":"object"}}}}'], f'{NAME}: query: place "{path}": bad path\n'),
+            (["--sort", f'{{"{path}":1}}'], f"{NAME}: sort: not a sort\n"),
+            (["--index", path], f"{NAME}: index: too many components\n"),
         ):
             ran = tests.run(["find", "-", *words])
             good = ran.status == 0 and ran.told.startswith("1 documents, end, token ")
