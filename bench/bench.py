@@ -6,13 +6,14 @@ usage: bench/bench.py [MEGABYTES ..] [--kind KIND] [--runs N] [--seed N] [--only
 Of one size, 20 megabytes without it: a row a task, with its time, how many times that of `check` of the same dump it is, its memory, and
 how many times as long each other program (bench/peers.py) takes. `dump`, `check` and `pack` are over documents of a KIND
 (bench/make_dump.py; mixed without it), over orders, and over orders that hold doubles (the kind priced), which go through `bsonwide`;
-`find` and `serve` over orders, and sorts over orders and, of the kind link, over texts that begin alike. Of several sizes: for each of
-them a column of times of `check`, and one of memory, all over orders, or over documents of a KIND that hold doubles.
+`find` and `serve` over orders, and sorts over orders and, of the kind link, over texts that begin alike. The layouts of `bsonwide dump`
+are over orders that hold doubles, as multiples of `dump` in lines of canonical form. Of several sizes: for each of them a column of times
+of `check`, and one of memory, all over orders, or over documents of a KIND that hold doubles.
 
 A time is that of the processor in all processes of a task, the least of N runs (5 without it), between which all other tasks are run;
 what takes above 5 seconds is run twice. Memory, in megabytes, is the greatest resident set of a process, where GNU time is installed to
 tell it. Output goes to /dev/null. First each task is looked at: it prints what another way prints. --only takes the tasks that have
-TEXT in their names, beside `check`.
+TEXT in their names, beside the first of a table.
 
 A run of one size without --only also draws docs/performance.svg, or what --picture names, where this python has matplotlib.
 
@@ -139,6 +140,19 @@ def wide_tasks(kind: str, wide: str, name: str, room: str, one: dict) -> list[Ta
     return tasks
 
 
+def layout_tasks(wide: str, name: str, room: str) -> list[Task]:
+    """`dump` of orders with doubles in each layout, the plain one first."""
+    file, lines = f"{name}.bson", ["cat", f"{name}.jsonl"]
+    dump, driver = [wide, "dump", file], peers.go_driver(room)
+    tasks = [Task("dump", {OWN: dump, **({"Go's driver": [*driver, "dump", file]} if driver else {})}, alike=lines)]
+    for layout in peers.LAYOUTS:
+        words = {OWN: [*dump, *layout.options], **peers.of_layout(layout, shlex.join(dump))}
+        if driver and layout.driver:
+            words["Go's driver"] = [*driver, layout.driver, file]
+        tasks.append(Task(f"dump {layout.name}", words, alike=peers.of_layout(layout, shlex.join(lines)).get(layout.exact, [])))
+    return tasks
+
+
 def find_tasks(program: str, dump: str, order: dict) -> list[Task]:
     """Queries; one is an order that is to be found. And by an index, which each run makes anew."""
     tasks = []
@@ -205,15 +219,15 @@ def tasks_of(kind: str, program: str, wide: str, name: str, room: str) -> list[T
 
 
 def beside(group: list[Task], least: Times) -> list[list[str]]:
-    """The rows of one dump, with a column for each other program. `check` is the first."""
+    """The rows of one dump, with a column for each other program. Times are also multiples of that of the first task."""
     names = dict.fromkeys(name for task in group for name in task.words if name != OWN)
-    rows = [["", "seconds", "of check", "MB", *names]]
-    check = least["check", OWN].processor
+    rows = [["", "seconds", f"of {group[0].name}", "MB", *names]]
+    first = least[group[0].name, OWN].processor
     for task in group:
         if OWN in task.words:
             own = least[task.name, OWN].processor
             others = [f"{least[task.name, name].processor / own:.1f}" if name in task.words else "" for name in names]
-            rows.append([task.name, f"{own:.3f}", f"{own / check:.2f}", memory(task), *others])
+            rows.append([task.name, f"{own:.3f}", f"{own / first:.2f}", memory(task), *others])
     return rows
 
 
@@ -282,26 +296,29 @@ def main() -> int:
     sizes = words.megabytes or [20]
     kinds = [words.kind if words.kind in DOUBLES else "order"] if len(sizes) > 1 else list(dict.fromkeys([words.kind, "order", "priced"]))
     with tempfile.TemporaryDirectory() as room:
-        groups, names = [], []
+        groups, names, titles = [], [], [f"kind {kind}" for kind in kinds]
         for size, kind in itertools.product(sizes, kinds):
             names.append(f"{room}/{kind}-{size}")
             make(names[-1], size * 1_000_000, words.seed, kind)
-            tasks = tasks_of(kind, words.program, words.wide, names[-1], room)
-            groups.append([task for task in tasks if words.only in task.name or task.name == "check"])
+            groups.append(tasks_of(kind, words.program, words.wide, names[-1], room))
+        if len(sizes) == 1:
+            groups.append(layout_tasks(words.wide, f"{room}/priced-{sizes[0]}", room))
+            titles.append("layouts of dump, kind priced")
+        groups = [[task for task in group if words.only in task.name or task == group[0]] for group in groups]
         # Of several sizes the first alone is looked at.
-        for task in itertools.chain(*groups[: len(kinds)]):
+        for task in itertools.chain(*groups[: len(titles)]):
             if task.alike and printed(task.words[OWN], task.sent) != printed(task.alike):
                 print(f"something else is printed: {task.name}")
                 return 1
         peers.restore(f"{room}/order-{sizes[0]}.bson")
         print(f"{', '.join(map(str, sizes))} MB, seed {words.seed}, {machine()}, load {os.getloadavg()[0]:.1f}", flush=True)
         if len(sizes) > 1:
-            print(f"\nkind {kinds[0]}\n")
+            print(f"\n{titles[0]}\n")
             show(by_size(sizes, groups, words.runs))
             return 0
         least = [times(group, words.runs) for group in groups]
-        for kind, group, of in zip(kinds, groups, least):
-            print(f"\nkind {kind}\n")
+        for title, group, of in zip(titles, groups, least):
+            print(f"\n{title}\n")
             show(beside(group, of))
         if not words.only:
             shown = {name: speeds(file, of) for name, file, of in zip(kinds, names, least)}

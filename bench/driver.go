@@ -1,4 +1,4 @@
-// dump, check and pack over Go's driver, to stand beside bsonfind: driver COMMAND FILE.
+// dump, check, pack and relaxed, which is dump in relaxed form, over Go's driver, to stand beside bsonfind: driver COMMAND FILE.
 // Built by bench.py, where Debian's golang-mongodb-mongo-driver-dev is installed. Its check looks at no UTF-8.
 package main
 
@@ -12,11 +12,19 @@ import (
 	"go.mongodb.org/mongo-driver/bson"
 )
 
-// dump appends the text of each document to one buffer, the faster way of the driver.
 func dump(in *bufio.Reader, out *bufio.Writer) error {
+	return texts(in, out, true)
+}
+
+func relaxed(in *bufio.Reader, out *bufio.Writer) error {
+	return texts(in, out, false)
+}
+
+// texts appends the text of each document to one buffer, the faster way of the driver.
+func texts(in *bufio.Reader, out *bufio.Writer, canonical bool) error {
 	var text []byte
 	return documents(in, func(document bson.Raw) (err error) {
-		if text, err = bson.MarshalExtJSONAppend(text[:0], document, true, false); err != nil {
+		if text, err = bson.MarshalExtJSONAppend(text[:0], document, canonical, false); err != nil {
 			return err
 		}
 		_, err = out.Write(append(text, '\n'))
@@ -76,10 +84,10 @@ func pack(in *bufio.Reader, out *bufio.Writer) error {
 }
 
 func run(command, name string) error {
-	commands := map[string]func(*bufio.Reader, *bufio.Writer) error{"dump": dump, "check": check, "pack": pack}
+	commands := map[string]func(*bufio.Reader, *bufio.Writer) error{"dump": dump, "relaxed": relaxed, "check": check, "pack": pack}
 	does, known := commands[command]
 	if !known {
-		return fmt.Errorf("usage: driver dump|check|pack FILE")
+		return fmt.Errorf("usage: driver dump|relaxed|check|pack FILE")
 	}
 	file, err := os.Open(name)
 	if err != nil {

@@ -5,6 +5,7 @@ import functools
 import importlib.util
 import json
 import os
+import shlex
 import shutil
 import subprocess
 import sys
@@ -156,6 +157,75 @@ def of_query(query: Query, shown: str, dump: str) -> dict[str, list[str]]:
     if has_server():
         words["mongoexport"] = ["mongoexport", *SERVER, "--quiet", "--jsonFormat=canonical", *query.words()]
     return words
+
+
+class Layout(NamedTuple):
+    """A layout of `bsonwide dump`, and what makes it of lines of canonical form: words of jq for the shell, and a body for python. `exact`
+    is the one of the two that prints the same bytes. And the command of the program over Go's driver that prints it of the dump."""
+
+    name: str
+    options: list[str]
+    jq: str
+    exact: str
+    python: str = ""
+    driver: str = ""
+
+
+# Numbers as JSON has them, and dates as text: of a string no part matches, since its quotation marks are escaped.
+RELAXED = """
+import re, sys
+sys.path.append(sys.argv[1])
+from model.answers import Value, relaxed
+date = re.compile(r'{"\\$date":{"\\$numberLong":"(-?[0-9]+)"}}')
+number = re.compile(r'(?<!"\\$date":){"\\$number(?:Int|Long|Double)":"([^"]*[0-9])"}')
+for line in sys.stdin:
+    line = date.sub(lambda it: relaxed(Value("date", int(it[1]))) or it[0], line)
+    sys.stdout.write(number.sub(r"\\1", line))
+"""
+CSV = """
+import csv, json, sys
+rows = csv.writer(sys.stdout, lineterminator="\\n")
+rows.writerow(["order_no", "customer.name", "weight"])
+for line in sys.stdin:
+    it = json.loads(line)
+    rows.writerow([it["order_no"]["$numberInt"], it["customer"]["name"], it["weight"]["$numberDouble"]])
+"""
+FIELDS = ["--fields", "order_no,customer.name,weight"]
+NUMBERS = '(.["$numberInt"] // .["$numberLong"] // .["$numberDouble"])'
+# Those of orders with doubles.
+LAYOUTS = [
+    Layout(
+        "--jsonFormat relaxed",
+        ["--jsonFormat", "relaxed"],
+        f"-c 'walk(if type == \"object\" then {NUMBERS} as $n | if $n then ($n | tonumber) else . end else . end)'",
+        "dump, python3",
+        RELAXED,
+        "relaxed",
+    ),
+    Layout(
+        "--fields, three",
+        FIELDS,
+        "-c '{_id, customer: {name: .customer.name}, order_no, weight}'",
+        "dump, jq",
+    ),
+    Layout("--jsonArray", ["--jsonArray"], "-cs .", "dump, jq"),
+    Layout("--pretty", ["--pretty"], "--tab .", "dump, jq"),
+    Layout(
+        "--type csv, three fields",
+        ["--type", "csv", *FIELDS],
+        """-r '[.order_no["$numberInt"], .customer.name, .weight["$numberDouble"]] | @csv'""",
+        "dump, python3",
+        CSV,
+    ),
+]
+
+
+def of_layout(layout: Layout, shown: str) -> dict[str, list[str]]:
+    """The words that make it of lines. `shown` is for the shell, and prints the lines."""
+    tools = {"dump, jq": f"jq {layout.jq}"} if shutil.which("jq") else {}
+    if layout.python:
+        tools["dump, python3"] = shlex.join([sys.executable, "-c", layout.python, str(HERE.parent / "tests")])
+    return {name: ["sh", "-c", f"{shown} | {tool}"] for name, tool in tools.items()}
 
 
 SERVER = [f"--uri={os.environ.get('MONGODB_URI', '')}", "--db=bench", "--collection=orders"]
