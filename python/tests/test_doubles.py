@@ -216,7 +216,7 @@ class Finds(Goods):
         for path in (self.path, PEOPLE):
             with Session(path, PROGRAM) as session:
                 for filter, args in (
-                    ({"a": 1.5, "price": {"$type": "double"}}, ("numbers", 1, "the types of numbers are not told apart here")),
+                    ({"a": 1.5, "price": {"$type": "double"}}, ("numbers", 1, "the types of numbers are not told apart here", "price.$type")),
                     ({"a": 1.5, "b": {"$above": 1}}, ("filter", 1, "unknown operator", "b.$above")),
                     ({"a": 1.5, "é": {"$oid": "x"}}, ("json", 4, "bad wrapper", 18)),
                     ({"a": {"$numberDouble": "x"}}, ("json", 4, "bad wrapper", 5)),

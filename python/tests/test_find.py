@@ -150,7 +150,7 @@ class Goods(Dumps):
         for ask in (lambda: list(find(self.path, filter, program=PROGRAM)), lambda: count_documents(self.path, filter, program=PROGRAM)):
             with self.assertRaises(CommandError, msg=filter) as raised:
                 ask()
-            self.assertEqual((raised.exception.layer, raised.exception.text), ("numbers", NOT_TOLD))
+            self.assertEqual(raised.exception.args, ("numbers", 1, NOT_TOLD, "item.$type"))
         self.assertEqual(self.ids({"price": {"$type": ["double", "int", "long", "decimal"]}}), [0, 1, 2, 3, 4])
         ages = sum("$numberInt" in json.loads(line).get("age", {}) for line in PEOPLE_LINES)
         self.assertEqual(count_documents(PEOPLE, {"age": {"$type": "int"}}, program=PROGRAM), ages)
@@ -414,7 +414,7 @@ class Commands(Dumps):
 
     def test_refusals(self) -> None:
         for words, told in (
-            (("--query", '{"price":{"$type":["int"]},"a":{"$type":"long"}}'), f"query: {NOT_TOLD}"),
+            (("--query", '{"price":{"$type":["int"]},"a":{"$type":"long"}}'), f'query: place "a.$type": {NOT_TOLD}'),
             (("--query", '{"price":{"$x":1}}'), 'query: place "price.$x": unknown operator'),
             (("--query", '{"price":1.5,"a":'), "query: byte 17: not JSON"),
             (("--query", ""), "query: byte 0: not JSON"),

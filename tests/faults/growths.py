@@ -128,7 +128,7 @@ VALUES = """\
 {"getMore":3,"batch":5}
 {"ok":true,"documents":[{"a":{"$numberInt":"1"}}],"end":true,"token":"%(all)s"}
 {"find":{"d":{"$type":"double"}}}
-{"ok":false,"layer":"numbers","number":{"$numberInt":"1"},"text":"the types of numbers are not told apart here"}
+{"ok":false,"layer":"numbers","number":{"$numberInt":"1"},"text":"the types of numbers are not told apart here","place":"d.$type"}
 {"find":{"d":{"$numberDouble":"x"}}}
 {"ok":false,"layer":"json","number":{"$numberInt":"4"},"text":"bad wrapper","at":{"$numberLong":"13"}}
 {"find":{"d":1.5},"limit":1.0}
@@ -242,7 +242,7 @@ def wide_runs(failing: Failing) -> list[Run]:
         Run("find, how many", ["find", "-", "--count"], FIVE_DUMP, [b"5\n"], counted(5, "end", 4, FIVE_DUMP)),
         Run("find, how many and bytes", ["find", "-", "--count", "--bson"], FIVE_DUMP, [], USAGE, 2),
         Run("find, a type of numbers", ["find", "-", "--query", '{"d":{"$type":"double"}}'], b"".join(numbers), number_lines[:1], counted(1, "end", 0, CLASSED, query='{"d":{"$type":"long"}}')),
-        Run("find, three types of numbers", ["find", "-", "--query", '{"d":{"$type":"double"},"e":{"$type":"decimal"}}'], DOUBLE, [], f"{NAME}: query: the types of numbers are not told apart here\n", 1),
+        Run("find, three types of numbers", ["find", "-", "--query", '{"d":{"$type":"double"},"e":{"$type":"decimal"}}'], DOUBLE, [], f'{NAME}: query: place "e.$type": the types of numbers are not told apart here\n', 1),
         Run("find, a bad number", ["find", "-", "--query", '{"d":{"$numberDouble":"x"}}'], DOUBLE, [], f'{NAME}: query: byte 5: bad wrapper; write {{"$numberDouble":".."}}\n', 1),
         Run("find, a bad dump", ["find", "-", "--query", '{"d":1.5}'], DOUBLE + BAD, [], f'{NAME}: document 1, byte 40, path "a.0.1": bad boolean\n', 1),
         talk("a talk", "several.bson", TALK),

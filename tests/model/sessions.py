@@ -32,11 +32,11 @@ class Told(Exception):
 
 
 class Refused(Exception):
-    """What a command is refused for."""
+    """What a command is refused for, and the place in its filter if that is for a part of it."""
 
-    def __init__(self, layer: str, number: int) -> None:
-        super().__init__(layer, number)
-        self.layer, self.number = layer, number
+    def __init__(self, layer: str, number: int, place: str | None = None) -> None:
+        super().__init__(layer, number, place)
+        self.layer, self.number, self.place = layer, number, place
 
 
 def request_of(query: Value, sort: Value, skip: int, limit: int) -> Request:
@@ -130,7 +130,8 @@ class Session:
             return f'{{"ok":true{getattr(self, name)(fields)}}}'
         except Refused as refused:
             text = WORDS[refused.layer][refused.number - 1]
-            return f'{{"ok":false,"layer":"{refused.layer}","number":{{"$numberInt":"{refused.number}"}},"text":"{text}"}}'
+            place = "" if refused.place is None else f',"place":{json.dumps(refused.place, ensure_ascii=False)}'
+            return f'{{"ok":false,"layer":"{refused.layer}","number":{{"$numberInt":"{refused.number}"}},"text":"{text}"{place}}}'
         except TextFault as fault:
             at = "null" if fault.number == NOT_A_DOCUMENT else f'{{"$numberLong":"{fault.at}"}}'
             text = TEXT_WORDS[fault.number - 1]

@@ -7,11 +7,13 @@ lines, as bytes, and how many.
 The program is `bsonwide`. Each dump has 20 requests, or REQUESTS. The model compares all numbers exactly, as MongoDB does. What is found
 must be the lines of `bsonwide dump` at the places of the model's answer, in each layout, with `--bson` the bytes of the dump at these
 places, and with `--count` how many they are; standard error and the status stay. A query in a file has the answer of the same in an
-argument. A query is refused for its types only where its `$type`s split the four types of numbers into more than two classes.
+argument. A query is refused for its types only at the place of the first `$type` with which they split the four types of numbers into more
+than two classes.
 """
 
 import csv
 import io
+import json
 import random
 import re
 import subprocess
@@ -24,7 +26,7 @@ sys.path[:0] = [str(Path(__file__).resolve().parents[1]), str(Path(__file__).res
 from model.answers import BadFilter, Dump, Request, check_filter, path_fault, sort_pairs
 from support import PROGRAM as BUILT
 from support import Tests, usage_of
-from questions import WideInputs, more_classes
+from questions import IN_RUNS, NOT_TOLD, WideInputs, types_place
 
 PROGRAM = str(Path(sys.argv[1]).resolve()) if len(sys.argv) > 1 else str(BUILT.with_name("bsonwide"))
 DUMPS = int(sys.argv[2]) if len(sys.argv) > 2 else 40
@@ -32,7 +34,6 @@ SEED = int(sys.argv[3]) if len(sys.argv) > 3 else 75
 REQUESTS = int(sys.argv[4]) if len(sys.argv) > 4 else 20
 DAMAGES = 300
 
-TYPES = "bsonwide: query: the types of numbers are not told apart here\n"
 USAGE = usage_of("bsonwide")
 # A query in a file has at most so many bytes.
 LONGEST_QUERY = 16_777_216
@@ -96,9 +97,11 @@ class Finding:
             self.forms(name, words, (status, said), b"", b"")
             self.layouts(name, words, (status, said), None)
             self.rows(name, words, (status, said), None)
-        elif said == TYPES:
+        elif NOT_TOLD in said:
             self.refused += 1
-            self.tests.want(name, (status, found) == (1, []) and more_classes(query), status)
+            place = types_place(query, IN_RUNS)
+            wanted = (1, [], f"bsonwide: query: place {json.dumps(place, ensure_ascii=False)}: {NOT_TOLD}\n")
+            self.tests.want(name, place is not None and (status, found, said) == wanted, (status, found, said, wanted))
             self.forms(name, words, (status, said), b"", b"")
         else:
             places = model.answer(request)

@@ -5,15 +5,15 @@
 
 The program is `bsonfind`, with `bsonwide` beside it. The model compares all numbers exactly, as MongoDB does, and the documents that are
 found must be those of the dump to the byte: by runs of `bsonwide find`, whole, by an index and a page at a time, of parts, as a number,
-and by sessions with indexes. A session refuses a query for its types only where it names some of the four types of numbers alone, and a
-run only where two classes of them are not enough. `make test` asks few dumps; without a number there are 20,000.
+and by sessions with indexes. A session refuses a query only for the place of a `$type` that names some of the four types of numbers alone,
+and a run only for that of one with which two classes of them are not enough. `make test` asks few dumps; without a number there are 20,000.
 """
 
 import random
 import struct
 import sys
 import tempfile
-from collections.abc import Callable
+from collections.abc import Callable, Iterator
 from pathlib import Path
 
 sys.path[:0] = [str(Path(__file__).resolve().parents[1]), str(Path(__file__).resolve().parents[2] / "python")]
@@ -121,6 +121,8 @@ class WideInputs(Inputs):
 
 
 NOT_TOLD = "the types of numbers are not told apart here"
+# Into how many classes of types of numbers a query may split them.
+IN_SESSIONS, IN_RUNS = 1, 2
 
 
 class Asking:
@@ -151,10 +153,10 @@ class Asking:
                 request, texts = self.request()
                 size, query = self.rng.choice([1, 3, 100]), Raw(texts[0])
                 self.ask(
-                    f"dump {number}, {texts}", model, request, lambda: list(session.find(query, **asked(request, texts), batch_size=size, decode="bson")), some_types
+                    f"dump {number}, {texts}", model, request, lambda: list(session.find(query, **asked(request, texts), batch_size=size, decode="bson")), IN_SESSIONS
                 )
                 if self.rng.random() < 0.3 and not (request.skip or request.limit):
-                    self.ask(f"dump {number}, {texts}: count", model, request, lambda: session.count_documents(query), some_types, is_count=True)
+                    self.ask(f"dump {number}, {texts}: count", model, request, lambda: session.count_documents(query), IN_SESSIONS, is_count=True)
 
     def ask_runs(self, name: str, model: Dump, path: Path, request: Request, texts: tuple[str, str]) -> None:
         """Asks by runs: by a scan, by an index, a page at a time, by parts, and for the count."""
@@ -171,14 +173,14 @@ class Asking:
         def whole(**more: object) -> list[bytes]:
             return list(find(path, query, **how, **more, decode="bson", program=PROGRAM))
 
-        self.ask(f"{name}: a run", model, request, whole, more_classes)
-        self.ask(f"{name}: an index", model, request, lambda: whole(index=self.rng.choice(["a", "b", "a.b"])), more_classes)
-        self.ask(f"{name}: pages", model, request, pages, more_classes)
+        self.ask(f"{name}: a run", model, request, whole, IN_RUNS)
+        self.ask(f"{name}: an index", model, request, lambda: whole(index=self.rng.choice(["a", "b", "a.b"])), IN_RUNS)
+        self.ask(f"{name}: pages", model, request, pages, IN_RUNS)
         parts = plan(path, self.rng.choice([50, 200, 1000]))
-        if not more_classes(request.query):
-            self.ask(f"{name}: parts", model, request, lambda: find_parts(parts, query, **how, decode="bson", program=PROGRAM), more_classes)
+        if types_place(request.query, IN_RUNS) is None:
+            self.ask(f"{name}: parts", model, request, lambda: find_parts(parts, query, **how, decode="bson", program=PROGRAM), IN_RUNS)
         if not (request.skip or request.limit or request.sort.of):
-            self.ask(f"{name}: count", model, request, lambda: count_documents(path, query, program=PROGRAM), more_classes, is_count=True)
+            self.ask(f"{name}: count", model, request, lambda: count_documents(path, query, program=PROGRAM), IN_RUNS, is_count=True)
 
     def request(self) -> tuple[Request, tuple[str, str]]:
         query, sort = self.inputs.filter(), self.inputs.sort()
@@ -186,7 +188,7 @@ class Asking:
         return request, (self.inputs.text(query), self.inputs.text(sort))
 
     def ask(
-        self, name: str, model: Dump, request: Request, answer: Callable[[], object], is_refused: Callable[[Value], bool], is_count: bool = False
+        self, name: str, model: Dump, request: Request, answer: Callable[[], object], classes: int, is_count: bool = False
     ) -> None:
         try:
             check_filter(request.query)
@@ -198,7 +200,7 @@ class Asking:
         except CommandError as error:
             if error.layer == "numbers":
                 self.refused += 1
-                self.tests.want(name, error.text == NOT_TOLD and is_refused(request.query), error)
+                self.tests.want(name, error.place is not None and (error.text, error.place) == (NOT_TOLD, types_place(request.query, classes)), error)
             else:
                 told = error.number if error.layer == "filter" else "sort" if error.text == "not a sort" else error.layer
                 self.tests.want(name, told == fault or (fault is not None and told in ("json", "path", "sort")), (error, fault))
@@ -209,24 +211,31 @@ class Asking:
         self.tests.want(name, found == wanted, (found, wanted))
 
 
-def some_types(query: Value) -> bool:
-    """Whether a `$type` anywhere in a query names some of the four types of numbers, but not all."""
-    return any(0 < len(it) < len(NUMBERS) for it in _types_named(query))
+def types_place(query: Value, classes: int) -> str | None:
+    """The place of the first `$type` anywhere in a query that with those before it splits the four types of numbers into more classes."""
+    named = []
+    for place, types in _types_named(query):
+        named.append(types)
+        if len({tuple(kind in it for it in named) for kind in NUMBERS}) > classes:
+            return ".".join(place)
+    return None
 
 
-def more_classes(query: Value) -> bool:
-    """Whether the `$type`s in a query split the four types of numbers into three classes or four."""
-    named = _types_named(query)
-    return len({tuple(kind in it for it in named) for kind in NUMBERS}) > 2
-
-
-def _types_named(query: Value) -> list[set[str]]:
-    """The types of numbers that each `$type` anywhere in a query names."""
-    if query.kind == "object":
-        return [named for name, it in query.of for named in [*([_named(it)] if name == "$type" else []), *_types_named(it)]]
-    if query.kind == "javascriptWithScope":
-        return _types_named(query.of[1])
-    return [named for it in query.of for named in _types_named(it)] if query.kind == "array" else []
+def _types_named(value: Value, place: tuple[str, ...] = ()) -> Iterator[tuple[tuple[str, ...], set[str]]]:
+    """Each `$type` anywhere in a value, in the order of its text: the names to it, and the types of numbers that it names."""
+    match value.kind:
+        case "object":
+            pairs = value.of
+        case "array":
+            pairs = [(str(index), it) for index, it in enumerate(value.of)]
+        case "javascriptWithScope":
+            pairs = [("$scope", value.of[1])]
+        case _:
+            return
+    for name, it in pairs:
+        if name == "$type" and value.kind == "object":
+            yield (*place, name), _named(it)
+        yield from _types_named(it, (*place, name))
 
 
 def _named(operand: Value) -> set[str]:

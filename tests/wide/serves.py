@@ -25,7 +25,7 @@ from model.answers import Dump, Request, Value, obj, read_token, written
 from model.sessions import Refused, Session
 from support import PROGRAM as BUILT
 from support import Tests
-from questions import WideInputs, some_types
+from questions import IN_SESSIONS, WideInputs, types_place
 
 PROGRAM = str(Path(sys.argv[1]).resolve()) if len(sys.argv) > 1 else str(BUILT.with_name("bsonwide"))
 OTHER = str(Path(PROGRAM).with_name("bsonfind"))
@@ -77,10 +77,11 @@ class WideSession(Session):
     is_wide = True
 
     def request(self, fields: dict[str, Value], query: str) -> tuple[Request, Value]:
-        """A filter that names some of the types of numbers is refused after all that is wrong with the request."""
+        """A filter with a `$type` of some of the types of numbers is refused for it, after all that is wrong with the request."""
         made = super().request(fields, query)
-        if some_types(fields.get(query, obj())):
-            raise Refused("numbers", TYPES)
+        place = types_place(fields.get(query, obj()), IN_SESSIONS)
+        if place is not None:
+            raise Refused("numbers", TYPES, place)
         return made
 
 

@@ -1,6 +1,6 @@
 -- What the options ask, or why they are refused.
 use Rattle.std.proofs.Common.{◌≡◌, ◌∙◌, List, ℕ, Ok, inl, inr, subst, string_bytes}
-use Rattle.std.specs.Prelude.{ℤ, true, false}
+use Rattle.std.specs.Prelude.{ℤ, None}
 use Rattle.bd_value.specs.Tree.{AreParts, Doc, doc, fields_of, pairs_of-fields_of}
 use Rattle.bd_cursor_request.specs.Refused.{reason_of}
 use Rattle.bd_cli_args.specs.FindOptions.{FindOptions}
@@ -14,9 +14,9 @@ use Rattle.bd_wide_copy.specs.Dump.{AreDocuments, AreJoinedBy}
 use Rattle.bd_wide_copy.specs.Classes.{classed}
 use Rattle.bd_wide_copy.specs.declared.longs.Longs.{Longs}
 use Rattle.bd_wide_copy.proofs.ClassLemmas.{are_classed}
-use Rattle.bd_wide_query.specs.Types.{has_two_classes, longs_of}
+use Rattle.bd_wide_query.specs.{Split.third_class, Types.longs_of}
 use Rattle.bd_wide_substitute.specs.Both.{IsRead}
-use Rattle.bd_wide_find.specs.{Find.IsNoRequest, Find.IsRefused, Find.IsRefusedOver, Find.types_message, Options.requested_of, Options.sort_in}
+use Rattle.bd_wide_find.specs.{Find.IsNoRequest, Find.IsRefused, Find.IsRefusedOver, Options.requested_of, Options.sort_in}
 use Rattle.bd_wide_find.specs.declared.coded.Coded.{Coded}
 use Rattle.bd_wide_find.specs.Coded.{CopiesDump, IsTableOf}
 use Rattle.bd_wide_find.specs.inside.Fault.{ReportsAs}
@@ -50,11 +50,7 @@ reports_more Is More more (faults.Refused refused) reported = more (refused_text
 reports_more Is More more (faults.Message message) reported = more (string_bytes message) reported
 
 module _ (options : FindOptions) (numbers : List Number) (wholes texts : Doc) (bytes : List ℕ) where
-  -- two classes are not enough
-  pub refused_types : has_two_classes (fields_of texts) ≡ false → (message : List ℕ) → message ≡ types_message → IsRefusedOver options numbers wholes texts bytes message
-  refused_types apart message is = inl (apart, is)
-
-  module _ (documents : AreDocuments bytes) (longs : Longs) (is : longs ≡ longs_of (fields_of texts)) (two : has_two_classes (fields_of texts) ≡ true) where
+  module _ (documents : AreDocuments bytes) (longs : Longs) (is : longs ≡ longs_of (fields_of texts)) (two : third_class (fields_of texts) ≡ None) where
     abbrev these : (ds : List Doc) × AreJoinedBy (classed (longs_of (fields_of texts)) worth) ds bytes
     these = are_classed (longs_of (fields_of texts)) worth bytes documents
 

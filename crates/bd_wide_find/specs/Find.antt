@@ -1,5 +1,6 @@
 -- What `bsonwide find` prints for a query, its options and an input: numbers of all types match, and are sorted, by their values.
-use Rattle.std.specs.Prelude.{◌≡◌, ◌⊎◌, ℕ, ℤ, true, false, List, [], ◌∷◌, codes, Option, Ok, Err}
+use Rattle.std.specs.Prelude.{◌≡◌, ◌⊎◌, ℕ, ℤ, List, [], ◌∷◌, ◌++◌, codes, Option, Some, None, Ok, Err}
+use Rattle.std.specs.List.{join_with_byte}
 use Rattle.bd_value.specs.{Tree.Doc, Tree.doc, Tree.fields_of, Fits.Fits}
 use Rattle.bd_io_device.specs.Devices.{Over, Reader, read_words}
 use Rattle.bd_io_device.specs.declared.reading.ReadFault.{ReadFault}
@@ -7,6 +8,7 @@ use Rattle.bd_bson_check.specs.{Dump.IsDump, Fault.fault_view}
 use Rattle.bd_bson_check.specs.declared.fault.Fault.{Fault}
 use Rattle.bd_extjson_fault.specs.declared.json_fault.JsonFault.{JsonFault}
 use Rattle.bd_extjson_fault.specs.declared.json_fault.JsonFaultKind.TheVariants.{NotADocument}
+use Rattle.bd_extjson_text.specs.Text.{quoted}
 use Rattle.bd_cursor_request.specs.{Request.Request, declared.token.Token.Token}
 use Rattle.bd_cli_args.specs.FindOptions.{FindOptions}
 use Rattle.bd_cli_args.specs.declared.wide_line.Form.{Form}
@@ -19,7 +21,7 @@ use Rattle.bd_wide_rank.specs.{Rank.AreDistinct, Rank.HaveSame, Rank.code, Worth
 use Rattle.bd_wide_copy.specs.declared.longs.Longs.{Longs}
 use Rattle.bd_wide_copy.specs.{Classes.classed, Dump.AreJoinedBy, Dump.IsCopyOfDump, Dump.IsDocumentAt, Dump.IsFirstFault, Numbers.document_numbers}
 use Rattle.bd_wide_substitute.specs.Both.{IsRead, IsUnread}
-use Rattle.bd_wide_query.specs.{Coded.coded_query, Coded.valued_query, Nan.beside_nan, Types.has_two_classes, Types.longs_of}
+use Rattle.bd_wide_query.specs.{Coded.coded_query, Coded.valued_query, Nan.beside_nan, Split.Split, Split.third_class, Types.longs_of}
 use Rattle.bd_wide_find.specs.{Options.advised_text, Options.requested_of, Printer.IsLaidOutText}
 
 -- ---- what is requested
@@ -60,9 +62,10 @@ pub record IsRequest (options : FindOptions) (longs : Longs) (numbers : List Num
   pub coded : Request
   pub written : requested_of options (coded_query table longs numbers wholes texts) ≡ Ok (coded, token)
 
--- the message for a query whose `$type`s need more than two classes of numbers
-abbrev pub types_message : List ℕ
-types_message = codes "query: the types of numbers are not told apart here"
+-- the message for a query that has a `$type` at this place which needs a third class of numbers
+abbrev pub types_message : List (List ℕ) → List ℕ
+types_message place = codes "query: place "
+    ++ (quoted (join_with_byte 46 place) ++ codes ": the types of numbers are not told apart here")
 
 -- The options are refused with this message: the query with ranks is no document, or it or another option requests what it may not.
 abbrev pub IsNoRequest : FindOptions → Longs → List Number → Doc → Doc → List ℤ → List ℕ → Type 0
@@ -75,7 +78,7 @@ IsNoRequest options longs numbers wholes texts table message =
 -- alike. Its tokens have the digest of a copy of the dump, in which each number is its rank among those of the dump, and of the text of
 -- the request with such ranks.
 pub record IsRequestOver (options : FindOptions) (numbers : List Number) (wholes texts : Doc) (bytes : List ℕ) : Type 0 where
-  pub two_classes : has_two_classes (fields_of texts) ≡ true
+  pub two_classes : third_class (fields_of texts) ≡ None
   pub ds : List Doc
   pub table : List ℤ
   pub has : HasTable (longs_of (fields_of texts)) bytes ds table
@@ -87,12 +90,12 @@ pub record IsRequestOver (options : FindOptions) (numbers : List Number) (wholes
 abbrev pub request_by_value : List ℤ → Request → Request → Request
 request_by_value table request coded = record request { filter = beside_nan table request.filter; text = coded.text }
 
--- The options are refused with this message over a dump of all types: two classes of numbers are not enough for the query; or they
--- are, and there is no such request.
+-- The options are refused with this message over a dump of all types: a `$type` of the query needs a third class of numbers, and the
+-- message has its place; or none does, and there is no such request.
 abbrev pub IsRefusedOver : FindOptions → List Number → Doc → Doc → List ℕ → List ℕ → Type 0
 IsRefusedOver options numbers wholes texts bytes message =
-    ((has_two_classes (fields_of texts) ≡ false) × (message ≡ types_message))
-    ⊎ ((has_two_classes (fields_of texts) ≡ true) × ((ds : List Doc) × (table : List ℤ) × HasTable (longs_of (fields_of texts)) bytes ds table
+    ((split : Split) × (third_class (fields_of texts) ≡ Some split) × (message ≡ types_message split.path))
+    ⊎ ((third_class (fields_of texts) ≡ None) × ((ds : List Doc) × (table : List ℤ) × HasTable (longs_of (fields_of texts)) bytes ds table
     × IsNoRequest options (longs_of (fields_of texts)) numbers wholes texts table message))
 
 -- ---- a run

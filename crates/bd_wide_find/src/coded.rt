@@ -1,6 +1,6 @@
 //! The search over a copy of a dump, with a code in place of each number.
 
-ghost use Rattle.std.specs.Prelude.{◌≡◌, ℕ, IfErr, IfOk, List};
+ghost use Rattle.std.specs.Prelude.{◌≡◌, ℕ, IfErr, IfOk, List, map, string_bytes};
 ghost use Rattle.bd_value.specs.View.{pairs};
 ghost use Rattle.bd_cursor_request.specs.Request as requests;
 ghost use Rattle.bd_cursor_request.specs.Request.{request_view};
@@ -8,7 +8,7 @@ ghost use Rattle.bd_wide_rank.specs.Table.{worths};
 ghost use Rattle.bd_wide_copy.specs.Dump.{AreDocuments, bytes_of};
 ghost use Rattle.bd_wide_order.specs.{Query.renumber_request, Ranks.table_codes};
 ghost use Rattle.bd_wide_query.specs.Nan.{beside_nan as beside_nan_of};
-ghost use Rattle.bd_wide_find.specs.Find.{IsNoRequest, IsRefusedOver};
+ghost use Rattle.bd_wide_find.specs.Find.{IsNoRequest, IsRefusedOver, types_message as types_message_of};
 ghost use Rattle.bd_wide_find.specs.Coded.{CopiesDump, IsTableOf};
 ghost use Rattle.bd_wide_find.specs.inside.Fault.{ReportsAs};
 ghost use Rattle.bd_wide_find.specs.inside.Question.{SearchesBy, SearchesCopy};
@@ -17,11 +17,12 @@ use crate::options::read_search;
 use bd_bson_dump::{Dump, index_dump};
 use bd_cli_args::FindOptions;
 use bd_cli_find::{Search, SearchFault, json_message};
+use bd_cli_scan::output::push_path;
 use bd_cursor_request::Request;
 use bd_extjson_fault::{JsonFault, JsonFaultKind};
 use bd_value::NoMemory;
 use bd_wide_copy::{Longs, WideDump};
-use bd_wide_query::{WideQuery, classes_of, code_query, exclude_nan};
+use bd_wide_query::{WideQuery, classes_of, code_query, exclude_nan, third_class};
 use bd_wide_rank::Table;
 use std::alloc::Global;
 
@@ -45,9 +46,10 @@ pub(crate) fn code(
     ensures fault { IfErr result (ReportsAs (IsRefusedOver options.now query.now.numbers.items
         (pairs query.now.wholes) (pairs query.now.texts) (bytes_of dump.now))) }
 {
-    let Some(longs) = classes_of(&query.texts) else {
-        return Err(SearchFault::Message(String::from_str(alloc, TYPES)?));
-    };
+    if let Some(split) = third_class(alloc, &query.texts)? {
+        return Err(SearchFault::Message(types_message(alloc, &split.path)?));
+    }
+    let longs = classes_of(&query.texts);
     let table = table_of(alloc, dump)?;
     let search = coded_search(alloc, options, query, &table, longs)?;
     let copy = coded_copy(alloc, dump, &table, longs)?;
@@ -138,8 +140,15 @@ const NOT_A_DOCUMENT: JsonFault = JsonFault {
     at: 0,
 };
 
-/// The message for a query whose `$type`s need more than two classes of numbers.
-const TYPES: &str = "query: the types of numbers are not told apart here";
+/// The message for a query that has a `$type` at this place which needs a third class of numbers.
+fn types_message(alloc: Global, place: &[String]) -> Result<String, NoMemory>
+    ensures { IfOk result (λ s. string_bytes s ≡ types_message_of (map string_bytes place.now)) }
+{
+    let mut message = String::from_str(alloc, "query: place ")?;
+    push_path(place, &mut message)?;
+    message.push_str(": the types of numbers are not told apart here")?;
+    Ok(message)
+}
 
 /// The copy of a dump, with the codes of the numbers of a table, by the classes of their types.
 pub fn coded_copy(

@@ -1,12 +1,12 @@
 //! Queries with codes, and filters beside NaN.
 use crate::answers::{RowFault, is_whole};
 use bd_extjson::read_doc;
-use bd_extjson_text::write_doc;
+use bd_extjson_text::{write_doc, write_path};
 use bd_query::matches;
 use bd_query_filter::parse;
 use bd_value::Tree;
 use bd_wide_number::Number;
-use bd_wide_query::{classes_of, code_query, exclude_nan, read_query};
+use bd_wide_query::{classes_of, code_query, exclude_nan, read_query, third_class};
 use bd_wide_rank::{Numbers, Table};
 use std::alloc::Global;
 
@@ -33,9 +33,10 @@ const CODED: &[u8] =
 
 fn codes(alloc: Global) -> Result<bool, RowFault> {
     let query = read_query(alloc, QUERY)?;
-    let (Some(table), Some(longs)) = (table(alloc)?, classes_of(&query.texts)) else {
+    let Some(table) = table(alloc)? else {
         return Ok(false);
     };
+    let longs = classes_of(&query.texts);
     let coded = code_query(
         alloc,
         &query.wholes,
@@ -50,6 +51,20 @@ fn codes(alloc: Global) -> Result<bool, RowFault> {
     let mut text = Vec::new(alloc);
     write_doc(&coded, &mut text)?;
     Ok(text.as_slice() == CODED)
+}
+
+/// The path to a `$type` in an array that needs a third class.
+fn splits(alloc: Global) -> Result<bool, RowFault> {
+    let query = read_doc(
+        alloc,
+        br#"{"a":{"$type":"int"},"$or":[{"a":1},{"a":{"$type":"long"}}]}"#,
+    )?;
+    let Some(split) = third_class(alloc, &query)? else {
+        return Ok(false);
+    };
+    let mut path = Vec::new(alloc);
+    write_path(&split.path, &mut path)?;
+    Ok(path.as_slice() == b"\"$or.1.a.$type\"")
 }
 
 /// At most 2, with codes: 1 and 2 are, and neither NaN nor more is.
@@ -76,5 +91,6 @@ fn excludes(alloc: Global) -> Result<bool, RowFault> {
 #[test]
 fn queries(rt: HostRuntime) {
     assert!(rt; is_whole!(codes(rt.alloc())));
+    assert!(rt; is_whole!(splits(rt.alloc())));
     assert!(rt; is_whole!(excludes(rt.alloc())));
 }

@@ -87,7 +87,7 @@ const REPLIES: &[u8] = br#"{"ok":true,"entries":{"$numberLong":"3"},"multikey":f
 {"ok":true,"documents":[{"a":{"$numberDouble":"1.5"}}],"end":false,"token":"AQEAAAAAAAAAAAAAACjPHJbxmTPiv/BWpmXCZC6YURlP0P1UeyGI1WDtulRD"}
 {"ok":true,"places":[{"$numberInt":"1"}],"end":true,"token":"AQIAAAAAAAAAAQAAACjPHJbxmTPiv/BWpmXCZC6YURlP0P1UeyGI1WDtulRD"}
 {"ok":true,"plan":"index","index":"a","entries":{"$numberLong":"1"},"documents":{"$numberLong":"1"},"matches":{"$numberLong":"1"}}
-{"ok":false,"layer":"numbers","number":{"$numberInt":"1"},"text":"the types of numbers are not told apart here"}
+{"ok":false,"layer":"numbers","number":{"$numberInt":"1"},"text":"the types of numbers are not told apart here","place":"a.$type"}
 "#;
 
 fn serves(alloc: Global) -> Result<bool, RowFault> {

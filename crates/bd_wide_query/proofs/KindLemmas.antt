@@ -1,6 +1,6 @@
 -- By classes a `$type` accepts a number exactly if it names the type of the number.
 use Rattle.std.proofs.Common.{◌≡◌, ◌≢◌, ◌⊎◌, ◌∙◌, ℕ, ℤ, List, [], ◌∷◌, ◌++◌, Bool, true, false, cond, Option, Some, None, option_map, refl, sym, ap, ap₂, subst, inl, inr}
-use Rattle.std.specs.Prelude.{codes, not, ◌||◌, ◌&&◌}
+use Rattle.std.specs.Prelude.{codes, not, ◌||◌, ◌&&◌, if◌then◌else◌}
 use Rattle.std.specs.{Bool.beq, List.find, List.list_all, List.list_any, Option.option_and_then, Ordering.int_eq, Str.bytes_eq}
 use Rattle.std.proofs.lemmas.Bool.{and_parts, false_from_ne_true, not-false, not-true, or_cases, or_left, or_parts, or_right, true≢false}
 use Rattle.std.proofs.lemmas.Bool.Decides.{Decides-int_eq}
@@ -17,8 +17,8 @@ use Rattle.bd_query_filter.specs.FilterOf.{all_kinds, operand_kinds, type_kinds}
 use Rattle.bd_query_filter.specs.NameKind.{is_kind, kinds_named, kinds_numbered, query_types}
 use Rattle.bd_wide_copy.specs.Classes.{in_class, is_long}
 use Rattle.bd_wide_copy.specs.declared.longs.Longs.{Longs}
-use Rattle.bd_wide_query.specs.Types.{FieldsHaveOperand, HasOperand, ItemsHaveOperand, class_instead, each_by_class, element_type, fields_are_alike, has_longs, has_two_classes, is_alike}
-use Rattle.bd_wide_query.specs.Types.{is_alike_at, is_alone, is_number_name, is_one_class, is_type, items_are_alike, longs_of, names_type, type_alone, type_by_class, type_code, type_name, types_by_class}
+use Rattle.bd_wide_query.specs.Types.{FieldsHaveOperand, HasOperand, ItemsHaveOperand, class_instead, each_by_class, element_type, fields_are_alike, has_longs, is_alike}
+use Rattle.bd_wide_query.specs.Types.{is_alike_at, is_alone, is_number_name, is_type, items_are_alike, longs_of, names_type, type_alone, type_by_class, type_code, type_name, types_by_class}
 use Rattle.bd_wide_query.specs.declared.types.NumberType.{NumberType}
 use Rattle.bd_wide_query.specs.declared.types.NumberType.TheVariants as types
 
@@ -335,7 +335,7 @@ module _ (longs : Longs) where
 
 -- ---- the types of a class are named alike
 
-same_bools : (a b : Bool) → beq a b ≡ true → a ≡ b
+pub same_bools : (a b : Bool) → beq a b ≡ true → a ≡ b
 same_bools true true e = refl
 same_bools false false e = refl
 same_bools true false e = absurd cc
@@ -362,6 +362,16 @@ mutual
   alike_in_items j k no_items t e there = absurd there
   alike_in_items j k (item u ts) t e (inl there) = alike_in j k u t (and_parts (is_alike j k u) _ e).0 there
   alike_in_items j k (item u ts) t e (inr there) = alike_in_items j k ts t (and_parts (is_alike j k u) _ e).1 there
+
+-- no `$type` of a query separates the two types, if both are long
+abbrev pub is_one_class : Longs → NumberType → NumberType → Fields → Bool
+is_one_class longs j k fs = if is_long longs (element_type j) && is_long longs (element_type k) then fields_are_alike j k fs else true
+
+-- two classes of types are enough for a query: no `$type` in it separates two long types, nor two others
+abbrev pub has_two_classes : Fields → Bool
+has_two_classes fs =
+    (is_one_class (longs_of fs) types.Double types.Long fs && is_one_class (longs_of fs) types.Double types.Decimal fs)
+    && is_one_class (longs_of fs) types.Long types.Decimal fs
 
 module _ (fs : Fields) (t : Tree) (two : has_two_classes fs ≡ true) (there : FieldsHaveOperand fs t) where
   abbrev longs : Longs

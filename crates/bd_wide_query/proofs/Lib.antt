@@ -6,6 +6,7 @@ pub mod NumberLemmas
 pub mod ReadLemmas
 pub mod RelateLemmas
 pub mod RoleLemmas
+pub mod SplitLemmas
 pub mod StepLemmas
 pub mod TagLemmas
 pub mod TwiceLemmas

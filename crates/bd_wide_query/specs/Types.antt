@@ -109,21 +109,6 @@ longs_of fs = record {
   decimal128 = not (fields_are_alike types.Int types.Decimal fs);
 }
 
--- whether no `$type` of a query separates the two types, if both are long
-abbrev pub is_one_class : Longs → NumberType → NumberType → Fields → Bool
-is_one_class longs j k fs = if is_long longs (element_type j) && is_long longs (element_type k) then fields_are_alike j k fs else true
-
--- whether two classes of types are enough for a query: no `$type` in it separates two long types, nor two others
-abbrev pub has_two_classes : Fields → Bool
-has_two_classes fs = let longs = longs_of fs in
-    (is_one_class longs types.Double types.Long fs && is_one_class longs types.Double types.Decimal fs)
-    && is_one_class longs types.Long types.Decimal fs
-
--- whether a query separates none of the four types
-abbrev pub has_one_class : Fields → Bool
-has_one_class fs = (fields_are_alike types.Int types.Double fs && fields_are_alike types.Int types.Long fs)
-    && fields_are_alike types.Int types.Decimal fs
-
 -- ---- `$type` by classes
 
 -- whether some types are long

@@ -1,6 +1,6 @@
 //! Laws of filters beside NaN, and of `$type` by classes. The body of each is empty: its contract is the law.
 
-ghost use Rattle.std.specs.Prelude.{◌≡◌, ◌≢◌, ℤ, ◌≤ℤ◌, IsTrue, List, Some, true};
+ghost use Rattle.std.specs.Prelude.{◌≡◌, ◌≢◌, ℤ, ◌≤ℤ◌, IsTrue, List, None, Some};
 ghost use Rattle.bd_value.specs.{Tree.Fields, Tree.Tree, View.kind_of, declared.node.Kind.Kind};
 ghost use Rattle.bd_value.specs.declared.node.Kind.TheVariants.{Int32, Int64};
 ghost use Rattle.bd_value.specs.Tree.{int64, leaf};
@@ -14,7 +14,8 @@ ghost use Rattle.bd_wide_order.specs.Renumber.{renumber_filter};
 ghost use Rattle.bd_wide_order.specs.Ranks.{table_codes};
 ghost use Rattle.bd_wide_copy.specs.Classes.{in_class};
 ghost use Rattle.bd_wide_copy.specs.declared.longs.Longs.{Longs};
-ghost use Rattle.bd_wide_query.specs.Types.{FieldsHaveOperand, element_type, has_two_classes, longs_of, names_type, types_by_class};
+ghost use Rattle.bd_wide_query.specs.Split.{third_class};
+ghost use Rattle.bd_wide_query.specs.Types.{FieldsHaveOperand, element_type, longs_of, names_type, types_by_class};
 ghost use Rattle.bd_wide_query.specs.declared.types.NumberType.{NumberType};
 ghost use Rattle.bd_wide_query.specs.Nan.{beside_nan, coded_beside_nan, operator_beside_nan, relates_beside_nan};
 
@@ -36,10 +37,10 @@ pub fn numbers_relate_beside_nan()
         (leaf (int64 m)) ≡ relates_beside_nan (value_worth nan) r m n }
 {}
 
-/// `$type` by classes is `$type` by types. Where two classes are enough for a query, each `$type` in it, by classes, is true of a number
+/// `$type` by classes is `$type` by types. Where none of a query needs a third class, each `$type` in it, by classes, is true of a number
 /// in the class of its type exactly if it names that type. Of any other value it is true as before.
 pub fn types_match_by_class()
-    ensures numbers { (query : Fields) (operand : Tree) → has_two_classes query ≡ true →
+    ensures numbers { (query : Fields) (operand : Tree) → third_class query ≡ None →
         FieldsHaveOperand query operand → let longs = longs_of query in (kinds : List Kind) →
         operand_kinds (types_by_class longs operand) ≡ Some kinds → (type : NumberType) (z : ℤ) →
         is_of_type kinds (leaf (in_class longs (element_type type) z)) ≡ names_type type operand }

@@ -38,6 +38,7 @@
 //! - `nan`: `exclude_nan`, the filter with codes beside NaN.
 //! - `read`: `read_query`, the two documents of a text and its numbers.
 //! - `role`: what a value of a query is: whether it is compared with.
+//! - `split`: `third_class` and `first_split`, where a `$type` needs more classes than there are: `specs/Split.antt`.
 //! - `types`: `classes_of`, the two classes of the types of numbers that each `$type` of a query treats alike: `specs/Types.antt`.
 #![tactic(auto)]
 
@@ -46,10 +47,12 @@ mod laws;
 mod nan;
 mod read;
 mod role;
+mod split;
 mod types;
 
 pub use coded::code_query;
 pub use laws::{numbers_relate_beside_nan, renumbered_beside_nan, types_match_by_class};
 pub use nan::exclude_nan;
 pub use read::{WideQuery, read_query};
-pub use types::{classes_of, takes_types_alike};
+pub use split::{Split, first_split, third_class};
+pub use types::classes_of;

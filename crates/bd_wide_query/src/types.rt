@@ -5,7 +5,7 @@ ghost use Rattle.std.specs.List.{list_any};
 ghost use Rattle.bd_value.specs.Tree as trees;
 ghost use Rattle.bd_value.specs.Tree.{fields_of, items_of, leaf, values_of};
 ghost use Rattle.bd_value.specs.View.{node_parts, node_tree, pairs};
-ghost use Rattle.bd_wide_query.specs.Types.{class_name as class_name_of, element_type, has_one_class, has_two_classes, is_alone as is_alone_of, is_number_name as is_number_name_of, is_one_class as is_one_class_of, longs_of};
+ghost use Rattle.bd_wide_query.specs.Types.{class_name as class_name_of, element_type, is_alone as is_alone_of, is_number_name as is_number_name_of, longs_of};
 ghost use Rattle.bd_wide_query.specs.Types.{fields_are_alike, is_alike as is_alike_of, is_alike_at as is_alike_at_of, items_are_alike};
 ghost use Rattle.bd_wide_query.specs.Types.{is_type as is_type_of, names_type as names_type_of, type_alone as type_alone_of, type_by_class, type_code, type_name};
 
@@ -64,48 +64,15 @@ impl NumberType {
     }
 }
 
-/// The two classes of the types of numbers that each `$type` of a query treats alike, by the types of the class without int32. None if
-/// two classes are not enough. It takes no memory.
-pub fn classes_of(query: &Document) -> Option<Longs>
-    ensures classes { IfSome result (λ longs. longs ≡ longs_of (fields_of (pairs query.now))) }
-    ensures enough { IfSome result (λ _. has_two_classes (fields_of (pairs query.now)) ≡ true) }
-    ensures none { IfNone result (has_two_classes (fields_of (pairs query.now)) ≡ false) }
-{
-    let longs = longs_in(query);
-    let apart = (is_one_class(longs, NumberType::Double, NumberType::Long, query)
-        && is_one_class(longs, NumberType::Double, NumberType::Decimal, query))
-        && is_one_class(longs, NumberType::Long, NumberType::Decimal, query);
-    if apart { Some(longs) } else { None }
-}
-
-/// Whether no `$type` of a query separates two of the types of numbers. It takes no memory.
-pub fn takes_types_alike(query: &Document) -> bool
-    ensures { result ≡ has_one_class (fields_of (pairs query.now)) }
-{
-    (are_alike(NumberType::Int, NumberType::Double, query)
-        && are_alike(NumberType::Int, NumberType::Long, query))
-        && are_alike(NumberType::Int, NumberType::Decimal, query)
-}
-
-/// The types of numbers that some `$type` of a query separates from int32.
-fn longs_in(query: &Document) -> Longs
+/// The two classes of the types of numbers that each `$type` of a query treats alike, where two are enough: by the types that some
+/// `$type` separates from int32. It takes no memory.
+pub fn classes_of(query: &Document) -> Longs
     ensures { result ≡ longs_of (fields_of (pairs query.now)) }
 {
     Longs {
         double: !are_alike(NumberType::Int, NumberType::Double, query),
         int64: !are_alike(NumberType::Int, NumberType::Long, query),
         decimal128: !are_alike(NumberType::Int, NumberType::Decimal, query),
-    }
-}
-
-/// Whether no `$type` of a query separates two types, if both are long.
-fn is_one_class(longs: Longs, one: NumberType, other: NumberType, query: &Document) -> bool
-    ensures { result ≡ is_one_class_of longs one other (fields_of (pairs query.now)) }
-{
-    if longs.is_long(one.typed()) && longs.is_long(other.typed()) {
-        are_alike(one, other, query)
-    } else {
-        true
     }
 }
 
@@ -173,7 +140,7 @@ fn is_alike_at(one: NumberType, other: NumberType, name: &str, value: Tree<'_>) 
 }
 
 /// Whether an operand of `$type` names a type.
-fn names_type(kind: NumberType, value: Tree<'_>) -> bool
+pub(crate) fn names_type(kind: NumberType, value: Tree<'_>) -> bool
     ensures { result ≡ names_type_of kind (node_tree value.entry) }
 {
     match value.kind() {

@@ -16,7 +16,7 @@ const DOUBLE: Number = Number::Double(0x3ff8_0000_0000_0000);
 const DECIMAL: Number = Number::Decimal128(25, 0x303e_0000_0000_0000);
 
 /// The two documents, with a double and a decimal128 in turn, are this query with codes, among the numbers 1, 1.5 and 2; or a number
-/// is where nothing is compared with it, or two classes of types are not enough.
+/// is where nothing is compared with it.
 fn is(
     rt: &impl Abort,
     alloc: Global,
@@ -31,10 +31,7 @@ fn is(
     let table = numbers.into_table().expect(rt, "few numbers");
     let wholes = read_doc(alloc, whole)?;
     let texts = read_doc(alloc, text)?;
-    let Some(longs) = classes_of(&texts) else {
-        assert!(rt; wanted.is_none());
-        return Ok(());
-    };
+    let longs = classes_of(&texts);
     let coded = code_query(alloc, &wholes, &texts, &[DOUBLE, DECIMAL], &table, longs)?;
     match (coded, wanted) {
         (Some(document), Some(bytes)) => {
@@ -112,15 +109,6 @@ fn two_classes(rt: HostRuntime) -> Result<(), Fail> {
     // All are named: they stay.
     let all = b"{\"a\":{\"$type\":[\"double\",\"int\",\"long\",\"decimal\"]}}";
     is(&rt, alloc, all, all, Some(all))
-}
-
-#[test]
-fn more_than_two_classes(rt: HostRuntime) -> Result<(), Fail> {
-    let alloc = rt.alloc();
-    let three = b"{\"$or\":[{\"a\":{\"$type\":\"double\"}},{\"a\":{\"$type\":19}}]}";
-    is(&rt, alloc, three, three, None)?;
-    let other = b"{\"a\":{\"$type\":\"int\"},\"b\":{\"$type\":[\"long\",\"decimal\"]}}";
-    is(&rt, alloc, other, other, None)
 }
 
 #[test]

@@ -7,3 +7,5 @@ mod coded;
 mod examples;
 #[cfg(test)]
 mod read;
+#[cfg(test)]
+mod split;

@@ -1,7 +1,7 @@
 -- A search with codes, and the call over the copy of a dump that is the call by value.
 use Rattle.std.proofs.Common.{◌≡◌, ◌∙◌, ◌⊎◌, ℕ, List, Result, Ok, Err, refl, sym, ap, ap₂, subst, inl, inr}
 use Rattle.std.specs.Global.{Global}
-use Rattle.std.specs.Prelude.{ℤ, String, string_bytes, true, false}
+use Rattle.std.specs.Prelude.{ℤ, String, string_bytes, map, Some, None}
 use Rattle.bd_value.specs.Tree.{Doc, doc, fields_of}
 use Rattle.bd_value.specs.{Fits.Fits, View.pairs}
 use Rattle.bd_bson_dump.specs.Collection.{bytes_of as bytes_of_dump, documents}
@@ -28,7 +28,7 @@ use Rattle.bd_cli_service.specs.declared.call.CallFault.TheVariants as parts
 use Rattle.bd_wide_number.specs.declared.number.Number.{Number}
 use Rattle.bd_wide_order.specs.{Query.renumber_request, Ranks.table_codes}
 use Rattle.bd_wide_substitute.specs.Both.{IsRead}
-use Rattle.bd_wide_query.specs.{Coded.coded_query, Coded.valued_query, Nan.beside_nan, Types.has_one_class}
+use Rattle.bd_wide_query.specs.{Coded.coded_query, Coded.valued_query, Nan.beside_nan, Split.Split, Split.first_split}
 use Rattle.bd_wide_copy.specs.Classes.{no_longs}
 use Rattle.bd_wide_find.specs.Find.{request_by_value}
 use Rattle.bd_wide_find.proofs.{AnswerLemmas.coded_answers, AnswerLemmas.refusals_stay, AnswerLemmas.requests_are_read}
@@ -46,7 +46,7 @@ pub refuses_more : (Is More : ReportedRefusal → Type 0) → ((why : ReportedRe
     → RefusesWide More fault
 refuses_more Is More more faults.NoMemory is = tt
 refuses_more Is More more (faults.Refused why) is = more (reported_refusal why) is
-refuses_more Is More more faults.Types is = more types_refusal is
+refuses_more Is More more (faults.Types place) is = more (types_refusal (map string_bytes place.items)) is
 
 -- the fault of a part, as that of a line
 abbrev pub wide_fault : CallFault → WideCallFault
@@ -153,7 +153,7 @@ module _ (table : List ℤ) (numbers : List Number) (wholes : Doc) (f : FindComm
           (beside : (r : Request) (text : List ℕ) → c ≡ renumber_request (table_codes table) text r
           → view ≡ renumber_request (table_codes table) text (record r { filter = beside_nan table r.filter })) where
         -- the search with codes is that by value
-        pub is_search : has_one_class (fields_of f.filter) ≡ true → SearchesBy table numbers wholes f view
+        pub is_search : first_split no_longs (fields_of f.filter) ≡ None → SearchesBy table numbers wholes f view
         is_search alike =
             let (r, by, is) = requested_by_value c requested in (
               request_by_value table r c,
@@ -172,10 +172,10 @@ module _ (table : List ℤ) (numbers : List Number) (wholes : Doc) (f : FindComm
             )
 
         -- types of numbers are separated
-        pub types_refused : has_one_class (fields_of f.filter) ≡ false → IsNoSearch table numbers wholes f types_refusal
-        types_refused apart =
+        pub types_refused : (split : Split) → first_split no_longs (fields_of f.filter) ≡ Some split → IsNoSearch table numbers wholes f (types_refusal split.path)
+        types_refused split apart =
             let (r, by, is) = requested_by_value c requested in
-            inr ((by_texts, first), inr (fits, inr (r, by, apart, refl)))
+            inr ((by_texts, first), inr (fits, inr (r, split, by, apart, refl)))
 
 -- ---- calls
 

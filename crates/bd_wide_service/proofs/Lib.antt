@@ -5,3 +5,4 @@ pub mod CallLemmas
 pub mod ServiceLemmas
 pub mod PlacesLemmas
 pub mod ServeLemmas
+pub mod TypesLemmas

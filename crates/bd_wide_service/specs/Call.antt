@@ -1,6 +1,7 @@
 -- The call in a line of a session over a dump of all types: numbers match, and are sorted, by their values.
-use Rattle.std.specs.Prelude.{◌≡◌, ◌⊎◌, ℕ, ℤ, true, false, List, [], codes, Result, Ok, Err}
-use Rattle.bd_value.specs.{Tree.Doc, Tree.doc, Tree.fields_of, Fits.Fits}
+use Rattle.std.specs.Prelude.{◌≡◌, ◌⊎◌, ℕ, ℤ, List, [], ◌∷◌, codes, Some, None, Result, Ok, Err}
+use Rattle.std.specs.List.{join_with_byte}
+use Rattle.bd_value.specs.{Tree.Doc, Tree.doc, Tree.fields_of, Tree.leaf, Tree.text, Fits.Fits}
 use Rattle.bd_extjson_fault.specs.declared.json_fault.JsonFault.{JsonFault}
 use Rattle.bd_extjson_fault.specs.declared.json_fault.JsonFaultKind.TheVariants.{NotADocument}
 use Rattle.bd_cursor_model.specs.Session.{Call, explain_call, find_call, resume_call}
@@ -15,7 +16,7 @@ use Rattle.bd_wide_number.specs.declared.number.Number.{Number}
 use Rattle.bd_wide_rank.specs.{Rank.code, Worth.worth}
 use Rattle.bd_wide_copy.specs.{Classes.no_longs, Copy.number_coded, Dump.IsCopyOfDump, Dump.coded_documents}
 use Rattle.bd_wide_substitute.specs.Both.{IsRead, IsUnread}
-use Rattle.bd_wide_query.specs.{Coded.coded_query, Coded.valued_query, Types.has_one_class}
+use Rattle.bd_wide_query.specs.{Coded.coded_query, Coded.valued_query, Split.Split, Split.first_split}
 use Rattle.bd_wide_find.specs.Find.{HasTable, request_by_value}
 
 -- A dump of these bytes by value: its documents, the worth of each number in them once, and a copy of the dump in which each number
@@ -61,9 +62,14 @@ filter_in c = []
 abbrev pub with_filter : Doc → FindCommand → FindCommand
 with_filter filter f = record f { filter = filter }
 
--- the refusal of `$type` of some of the types of numbers
-abbrev pub types_refusal : ReportedRefusal
-types_refusal = record { layer = codes "numbers"; number = 1; words = codes "the types of numbers are not told apart here"; place = [] }
+-- the refusal of a `$type` of some of the types of numbers: layer `numbers`, with its place in the filter as that of a filter's fault
+abbrev pub types_refusal : List (List ℕ) → ReportedRefusal
+types_refusal place = record {
+  layer = codes "numbers";
+  number = 1;
+  words = codes "the types of numbers are not told apart here";
+  place = (codes "place", leaf (text (join_with_byte 46 place))) ∷ [];
+}
 
 -- For the numbers of a table, and a search with empty texts in place of these numbers, with the filter that has whole numbers:
 module _ (table : List ℤ) (numbers : List Number) (wholes : Doc) (f : FindCommand) where
@@ -82,7 +88,7 @@ module _ (table : List ℤ) (numbers : List Number) (wholes : Doc) (f : FindComm
     pub fits : Fits (doc (fields_of coded_search.filter))
     pub request : Request
     pub requested : request_for search_by_value ≡ Ok request
-    pub alike : has_one_class (fields_of f.filter) ≡ true
+    pub alike : first_split no_longs (fields_of f.filter) ≡ None
     pub coded : Request
     pub written : request_for coded_search ≡ Ok coded
     pub is : r ≡ request_by_value table request coded
@@ -91,11 +97,11 @@ module _ (table : List ℤ) (numbers : List Number) (wholes : Doc) (f : FindComm
   abbrev pub IsUnfit : ReportedRefusal → Type 0
   IsUnfit why = (Fits (doc (fields_of coded_search.filter)) → ⊥) × (why ≡ json_refusal (record { kind = NotADocument; at = 0 }))
 
-  -- The search by value is refused, or separates types of numbers.
+  -- The search by value is refused, or a `$type` of its filter splits the types of numbers: then the refusal has the place of the first one.
   abbrev pub IsRefusedByValue : ReportedRefusal → Type 0
   IsRefusedByValue why = (request_for search_by_value ≡ Err why)
-      ⊎ ((request : Request) × (request_for search_by_value ≡ Ok request)
-      × (has_one_class (fields_of f.filter) ≡ false) × (why ≡ types_refusal))
+      ⊎ ((request : Request) × (split : Split) × (request_for search_by_value ≡ Ok request)
+      × (first_split no_longs (fields_of f.filter) ≡ Some split) × (why ≡ types_refusal split.path))
 
   -- It is refused: by what it requests with empty texts, otherwise for its filter with ranks, otherwise by value.
   abbrev pub IsNoSearch : ReportedRefusal → Type 0

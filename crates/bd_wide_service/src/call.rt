@@ -24,7 +24,7 @@ use bd_value::{Document, NoMemory, Reading, Tree, document_fits, to_document};
 use bd_wide_copy::Longs;
 use bd_wide_find::beside_nan;
 use bd_wide_number::Number;
-use bd_wide_query::{WideQuery, code_query, read_query, takes_types_alike};
+use bd_wide_query::{WideQuery, code_query, first_split, read_query};
 use bd_wide_rank::Table;
 use std::alloc::{AllocError, Global};
 
@@ -35,8 +35,8 @@ pub(crate) enum WideCallFault {
     NoMemory,
     /// It is refused.
     Refused(LineRefusal),
-    /// Its search is for some of the types of numbers.
-    Types,
+    /// The `$type` at this place of its filter is of some of the types of numbers.
+    Types(Vec<String>),
 }
 
 impl From<AllocError> for WideCallFault {
@@ -197,8 +197,8 @@ fn coded_search(
     };
     let (request, choice) = read_search(alloc, coded)?;
     let request = beside_nan(alloc, request, table)?;
-    if !takes_types_alike(&texts) {
-        return Err(WideCallFault::Types);
+    if let Some(split) = first_split(alloc, Longs::none(), &texts)? {
+        return Err(WideCallFault::Types(split.path));
     }
     Ok((request, choice))
 }

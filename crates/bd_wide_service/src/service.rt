@@ -1,14 +1,17 @@
 //! A session over a dump of all types, which replies to each line that it receives.
 
-ghost use Rattle.std.specs.Prelude.{length};
+ghost use Rattle.std.specs.Prelude.{◌≡◌, ◌++◌, OnErr, OnOk, length, map, string_bytes};
 ghost use Rattle.bd_bson_dump.specs.Collection.{documents};
 ghost use Rattle.bd_cursor.specs.SessionView.{dump_of};
+ghost use Rattle.bd_cli_service.specs.Reply.{refuses, reply_text};
 ghost use Rattle.bd_wide_copy.specs.Dump.{IsCount, bytes_of};
+ghost use Rattle.bd_wide_service.specs.Call.{types_refusal};
 
 use crate::call::{WideCallFault, call_in};
 use crate::places::{PlacedLine, line_of, placed_line, reply_numbers};
 use bd_cli_service::{Call, LineRefusal, Reply, perform, write_batch, write_refusal, write_reply};
 use bd_cursor::Session;
+use bd_extjson_text::write_path;
 use bd_io_lines::Replier;
 use bd_value::NoMemory;
 use bd_wide_copy::{Longs, WideDump};
@@ -63,7 +66,7 @@ impl WideService {
             Ok(call) => self.answer(line, call, text),
             Err(WideCallFault::NoMemory) => Err(AllocError),
             Err(WideCallFault::Refused(refusal)) => self.refuse(refusal, text),
-            Err(WideCallFault::Types) => write_refusal("numbers", 1, TYPES, text),
+            Err(WideCallFault::Types(place)) => write_types(self.alloc, &place, text),
         }
     }
 
@@ -146,5 +149,21 @@ impl Replier for WideService {
     }
 }
 
-/// Why a search for some of the types of numbers is refused.
+/// Appends the reply to a search with a `$type` of some of the types of numbers at this place. On `NoMemory`, `text` is unchanged.
+fn write_types(alloc: Global, place: &[String], text: &mut Vec<u8>) -> Result<(), NoMemory>
+    ensures ok { OnOk result (text.new.items
+        ≡ text.old.items ++ reply_text (refuses (types_refusal (map string_bytes place.now)))) }
+    ensures err { OnErr result (text.new.items ≡ text.old.items) }
+{
+    let mut reply = Vec::new(alloc);
+    write_refusal("numbers", 1, TYPES, &mut reply)?;
+    // The place comes before the brace at its end.
+    reply.truncate(reply.len() - 1);
+    reply.extend_from_slice(b",\"place\":")?;
+    write_path(place, &mut reply)?;
+    reply.push(b'}')?;
+    text.extend_from_slice(&reply)
+}
+
+/// Why a search with a `$type` of some of the types of numbers is refused.
 const TYPES: &str = "the types of numbers are not told apart here";

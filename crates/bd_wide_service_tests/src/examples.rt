@@ -70,7 +70,7 @@ fn refused_commands(rt: HostRuntime) {
     let profile =
         b"{\"ok\":false,\"layer\":\"json\",\"number\":{\"$numberInt\":\"5\"},\"text\":\"not in the profile\",\"at\":{\"$numberLong\":\"13\"}}\n";
     let types =
-        b"{\"ok\":false,\"layer\":\"numbers\",\"number\":{\"$numberInt\":\"1\"},\"text\":\"the types of numbers are not told apart here\"}\n";
+        b"{\"ok\":false,\"layer\":\"numbers\",\"number\":{\"$numberInt\":\"1\"},\"text\":\"the types of numbers are not told apart here\",\"place\":\"a.$type\"}\n";
     for (bytes, command, wanted) in [
         (
             plain.as_slice(),

@@ -1,5 +1,5 @@
 -- What the parts of a run of `find` give.
-use Rattle.std.specs.Prelude.{◌≡◌, ℤ, true, List, ℕ, Ok}
+use Rattle.std.specs.Prelude.{◌≡◌, ℤ, true, List, ℕ, None, Ok}
 use Rattle.bd_value.specs.{Tree.Doc, Tree.fields_of, View.pairs}
 use Rattle.bd_cursor_request.specs.Request.{request_view}
 use Rattle.bd_cli_args.specs.FindOptions.{FindOptions}
@@ -8,7 +8,7 @@ use Rattle.bd_cli_find.specs.declared.options.Search.{Search}
 use Rattle.bd_wide_number.specs.declared.number.Number.{Number}
 use Rattle.bd_wide_order.specs.{Query.renumber_request, Ranks.table_codes}
 use Rattle.bd_wide_copy.specs.declared.longs.Longs.{Longs}
-use Rattle.bd_wide_query.specs.Types.{has_two_classes, longs_of}
+use Rattle.bd_wide_query.specs.{Split.third_class, Types.longs_of}
 use Rattle.bd_wide_substitute.specs.Both.{IsRead}
 use Rattle.bd_wide_find.specs.Coded.{CopiesDump}
 use Rattle.bd_wide_find.specs.{Find.HasTable, Find.IsRequest, Find.request_by_value, Options.requested_of}
@@ -30,7 +30,7 @@ SearchesBy options longs numbers wholes texts table search = (requests : IsReque
 
 -- The search with codes, and the copy.
 pub record SearchesCopy (options : FindOptions) (numbers : List Number) (wholes texts : Doc) (bytes : List ℕ) (c : Coded) : Type 0 where
-  pub two_classes : has_two_classes (fields_of texts) ≡ true
+  pub two_classes : third_class (fields_of texts) ≡ None
   pub ds : List Doc
   pub table : List ℤ
   pub has : HasTable (longs_of (fields_of texts)) bytes ds table

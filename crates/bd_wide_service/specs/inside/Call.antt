@@ -1,5 +1,5 @@
 -- How a call by value is made with codes, over the copy of a dump.
-use Rattle.std.specs.Prelude.{◌≡◌, ℤ, List, ℕ}
+use Rattle.std.specs.Prelude.{◌≡◌, ℤ, List, ℕ, map, string_bytes}
 use Rattle.bd_value.specs.Tree.{Doc}
 use Rattle.bd_bson_dump.specs.Collection.{bytes_of as bytes_of_dump, documents}
 use Rattle.bd_bson_dump.specs.declared.collection.Dump.{Dump}
@@ -22,7 +22,7 @@ pub record IsOver {bytes : List ℕ} (v : ByValue bytes) (table : List ℤ) (cop
 abbrev pub RefusesWide : (ReportedRefusal → Type 0) → WideCallFault → Type 0
 RefusesWide IsRefusal faults.NoMemory = Unit {0}
 RefusesWide IsRefusal (faults.Refused why) = IsRefusal (reported_refusal why)
-RefusesWide IsRefusal faults.Types = IsRefusal types_refusal
+RefusesWide IsRefusal (faults.Types place) = IsRefusal (types_refusal (map string_bytes place.items))
 
 -- The request is that of a search with codes: ranks among the numbers of a table.
 abbrev pub SearchesBy : List ℤ → List Number → Doc → FindCommand → Request → Type 0
