@@ -1,9 +1,16 @@
 #!/usr/bin/env python3
 """Runs a program over damaged dumps, texts and commands, and over random requests, and looks for a crash, a hang or a wrong answer.
 
-usage: tests/hostile/hostile.py SECONDS [SEED [PROGRAM]]
+usage: tests/hostile/hostile.py SECONDS [SEED [PROGRAM [WAY]]]
 
-PROGRAM is ./bsonwide, or ./bsonfind, which runs without it. Of its commands all are tried. What is packed, found and replied is compared with what Python makes of the same input (tests/model/dumps.py, texts.py, answers.py, sessions.py).
+PROGRAM is ./bsonwide, or ./bsonfind, which runs without it. All of its commands are tried, or with WAY the inputs of one way of WAYS
+alone. What is printed, packed, found and replied is compared with what Python makes of the same input (tests/model/dumps.py, texts.py,
+answers.py, sessions.py), but for these of `bsonwide`:
+
+- Where the query or the dump has a double or a decimal128, the digest in a token is not compared, since no model makes the codes that it
+  is of, and nothing resumes from such a token. tests/wide/finds.py does.
+- `serve` is tried over dumps without them, where its replies are those of `bsonfind`. Others are those of tests/wide/serves.py.
+
 Each run has a stack of 1 MiB, and some have little memory. An input that fails is kept, in a directory that is named,
 with the command and the reason.
 The last line is 'N passed, M failed', which counts inputs.
@@ -21,7 +28,7 @@ from typing import NamedTuple
 
 sys.path.insert(0, str(Path(__file__).resolve().parents[1]))
 
-from model.answers import Dump, Value, encoded, obj, written
+from model.answers import Dump, Token, Value, encoded, obj, read_token, written
 from model.dumps import read_dump
 from model.inputs import Inputs
 from model.sessions import Find, Session, packed
@@ -32,12 +39,15 @@ from support import ROOT, commands_of
 PROGRAM = Path(sys.argv[3]).resolve() if len(sys.argv) > 3 else BUILT
 NAME = PROGRAM.name
 IS_WIDE = NAME == "bsonwide"
-# `find` and `serve` of `bsonwide`, whose tokens the model does not make, are compared by tests/wide.
-COMMANDS = [it for it in commands_of(NAME) if not (IS_WIDE and it in ("find", "serve"))]
+COMMANDS = commands_of(NAME)
+# The inputs, and how often they come.
+WAYS = {"requests": 0.2, "words": 0.07, "talk": 0.25, "text": 0.2, "dump": 0.25, "memory": 0.03}
 STACK = 1 << 20
 TIMEOUT = 60
 SHALLOW = 300  # documents of the examples to begin with, which stand before others
 FAILURES = 10  # the search ends at so many
+# What `bsonwide` answers by value.
+BY_VALUE = ["--query", '{"age":{"$gt":29.5}}'] if IS_WIDE else []
 # After it stand a number of KiB and the words of a line.
 LIMITED = ["sh", "-c", 'ulimit -v "$0" && exec "$@"']
 
@@ -84,8 +94,9 @@ VALUES = [
     '{"$symbol":1.5}', '{"$date":1.5}', '{"$timestamp":{"t":1e3,"i":1}}', '{"$numberInt":1.5}', '{"$numberLong":"1.5"}', '{"$numberFloat":"1.5"}',
     "null", "true", "-0", "1e9", "2147483648", "-9223372036854775809", "9" * 5000, '"\\u0000"', '"\\ud83d\\ude00"', "[]",
     '{"$numberInt":"1"}', '{"$numberInt":"2147483648"}', '{"$numberInt":"01"}', '{"$numberInt":1}',
-    '{"$date":{"$numberLong":"1"}}', '{"$date":"x"}', '{"$uuid":"x"}', '{"$code":"","$scope":{}}', '{"$scope":{},"$code":""}',
-    '{"$code":"","$scope":1}', '{"$oid":"0123456789ABCDEF01234567"}', '{"$binary":{"base64":"AA==","subType":"2"}}',
+    '{"$date":{"$numberLong":"1"}}', '{"$date":"x"}', '{"$date":"2026-10-01T09:30:00.5+02:00"}', '{"$date":"0000-02-29T00:00:00Z"}',
+    '{"$uuid":"x"}', '{"$uuid":"c8edabc3-f738-4ca3-b68d-ab92a91478a3"}', "ObjectId(1)", "new Date(1)", "/x/", '{"$code":"","$scope":{}}',
+    '{"$scope":{},"$code":""}', '{"$code":"","$scope":1}', '{"$oid":"0123456789ABCDEF01234567"}', '{"$binary":{"base64":"AA==","subType":"2"}}',
     '{"$binary":{"base64":"AB==","subType":"2"}}', '{"$timestamp":{"t":4294967296,"i":0}}', '{"$minKey":1.0}',
     '{"$regularExpression":{"options":"","pattern":"\\u0000"}}', "[" * 201 + "]" * 201, '{"a":' * 202 + "1" + "}" * 202,
 ]  # fmt: skip
@@ -117,7 +128,7 @@ class Search:
 
     def __init__(self, seed: int, room: Path) -> None:
         self.rng = random.Random(seed)
-        self.inputs = Inputs(self.rng, IS_WIDE)
+        self.inputs = Inputs(self.rng)
         self.room = room
         self.runs = 0
         self.input = self.served = b""
@@ -163,6 +174,24 @@ class Search:
         self.want(ended.returncode in (0, 1), f"status {ended.returncode}")
         return Ran(ended.returncode, ended.stdout, ended.stderr)
 
+    def plain_dump(self) -> Dump:
+        """A dump without doubles and decimal128. What is then asked of it has some here and there."""
+        self.inputs.is_wide = False
+        dump = Dump(self.inputs.documents())
+        self.inputs.is_wide = IS_WIDE and self.rng.random() < 0.3
+        return dump
+
+    def over_find(self, find: Find, dump: Dump, fault: str = "") -> Token | None:
+        """find of a dump shows what Python finds, or the fault of the dump. The token, where it is known to the end."""
+        status, out, told = find.shown(dump, NAME, fault)
+        ran = self.run("find", dump.bytes, *find.words())
+        err = ran.err.decode()
+        # The model tells a token by value without a digest.
+        token = token_in(err)
+        short = err.replace(token.text(), token._replace(tied=b"").text()) if token else err
+        self.want((ran.status, ran.out) == (status, out) and told in (err, short), f"what is found; wanted {status} {told!r}")
+        return token_in(told)
+
     def over_dump(self, data: bytes) -> None:
         """dump, check, find and pack of a dump show what Python reads in it."""
         read = read_dump(data, IS_WIDE)
@@ -174,15 +203,9 @@ class Search:
         checked = "".join(faults).encode(), f"{len(read.documents)} documents, {len(faults)} faulty\n".encode()
         self.want(self.run("check", data) == Ran(int(faults != []), *checked), f"check; wanted {checked!r}")
 
-        if "find" in COMMANDS:
-            self.inputs.made = read.good()
-            find = self.inputs.find()
-            status, out, told = find.shown(Dump(read.front(), data))
-            if faults and status == 0:
-                status, out, told = 1, b"", fault
-            self.want(self.run("find", data, *find.words()) == Ran(status, out, told.encode()), f"what is found; wanted {status} {told!r}")
-        if "pack" in COMMANDS:
-            self.over_text(b"".join(lines))
+        self.inputs.made = read.good()
+        self.over_find(self.inputs.find(), Dump(read.front(), data), faults[0].rstrip("\n") if faults else "")
+        self.over_text(b"".join(lines))
 
     def over_text(self, text: bytes) -> None:
         """pack of a text writes the documents that Python reads, and tells the first fault that it finds."""
@@ -195,7 +218,7 @@ class Search:
         Nothing nests deep: where the system has no memory to let the stack grow, it ends the program by a signal.
         """
         command = self.rng.choice(COMMANDS)
-        words = self.rng.choice([["--query", '{"age":30}'], ["--sort", '{"name":1}'], ["--sort", '{"age":-1}', "--limit", "3"]])
+        words = self.rng.choice([["--query", '{"age":30}'], ["--sort", '{"name":1}'], ["--sort", '{"age":-1}', "--limit", "3"], BY_VALUE])
         words = words if command == "find" else []
         from_all, between = (self.lines, b"\n") if command == "pack" else (self.documents, b"")
         data = between.join(self.rng.choices(from_all[:SHALLOW], k=self.rng.choice([1, 10, 100, 1000])))
@@ -213,26 +236,21 @@ class Search:
     def least_memory(self) -> int:
         """The KiB with which `find` sorts a document or tells that it has no memory: it needs the most stack of all commands."""
         limit = 1024
-        words = [PROGRAM, "find", "-", "--sort", '{"age":1}']
+        words = [PROGRAM, "find", "-", "--sort", '{"age":1}', *BY_VALUE]
         while subprocess.run([*LIMITED, str(limit), *words], input=self.documents[0], capture_output=True).returncode not in (0, 1):
             limit += 64
         return limit
 
     def over_words(self) -> None:
         """Of a query, a sort or a token of any form the first fault is told."""
-        inputs, rng = self.inputs, self.rng
-        dump = Dump(inputs.documents())
-        find = inputs.find()
-        ways = rng.choice([("query",), ("sort",), ("query", "sort"), ("after",)])
+        rng, dump, find = self.rng, self.plain_dump(), self.inputs.find()
+        ways = rng.choice([("query",), ("query",), ("sort",), ("query", "sort"), ("after",)])
         texts = {name: self.damaged_word(getattr(find, name) or "A" * 60) for name in ways}
-        find = find._replace(**texts)
-        status, out, told = find.shown(dump)
-        self.want(self.run("find", dump.bytes, *find.words()) == Ran(status, out, told.encode()), f"what is told of words; wanted {told!r}")
+        self.over_find(find._replace(**texts), dump)
 
     def over_requests(self) -> None:
         """What is found in random documents by random requests, and after the tokens of earlier ones, is what Python finds."""
-        inputs, rng = self.inputs, self.rng
-        dump = Dump(inputs.documents())
+        inputs, rng, dump = self.inputs, self.rng, self.plain_dump()
         lines = b"".join(written(it).encode() + b"\n" for it in dump.documents)
         self.want(self.run("dump", dump.bytes) == Ran(0, lines, b"%d objects found\n" % len(dump.documents)), "dump of random documents")
         earlier: list[Find] = []
@@ -243,16 +261,12 @@ class Search:
                 find = (find if rng.random() < 0.1 else before)._replace(after=before.after, batch=find.batch, index=find.index)
                 if rng.random() < 0.3:
                     find = find._replace(after=inputs.bent_token(find.after, len(dump.documents)))
-            status, out, told = find.shown(dump)
-            ran = self.run("find", dump.bytes, *find.words())
-            self.want(ran == Ran(status, out, told.encode()), f"what is found; wanted {status} {told!r}")
-            if ", token " in told:
-                earlier.append(find._replace(after=told.rstrip().rsplit(" ", 1)[-1]))
+            if token := self.over_find(find, dump):
+                earlier.append(find._replace(after=token.text()))
 
     def over_talk(self) -> None:
         """The replies to random commands, of which some are damaged, are those that Python makes."""
-        inputs, rng = self.inputs, self.rng
-        session = Session(Dump(inputs.documents()))
+        inputs, rng, session = self.inputs, self.rng, Session(self.plain_dump())
         first = rng.choice([b""] * 20 + [b'{"find":{}}', b'{"createIndex":"%d"}'])
         lines = [first.replace(b"%d", b"%d" % number) for number in range(rng.choice([16, 62, 64]) if first else 0)]
         wanted = [session.reply(line) for line in lines]
@@ -340,12 +354,13 @@ class Search:
 
     def damaged_word(self, text: str) -> str:
         """A text that can be a word of a line, with a few changes."""
-        return self.damaged(text.encode(), [part.encode() for part in PARTS]).replace(b"\0", b"").decode(errors="replace")
+        data = text.encode()
+        made = self.with_other_value(data) if self.rng.random() < 0.4 else self.damaged(data, [part.encode() for part in PARTS])
+        return made.replace(b"\0", b"").decode(errors="replace")
 
-    def once(self) -> None:
-        ways = {"find": {"requests": 0.2, "words": 0.07}, "serve": {"talk": 0.25}, "pack": {"text": 0.2}, "dump": {"dump": 0.25, "memory": 0.03}}
-        parts = {way: part for command, of in ways.items() if command in COMMANDS for way, part in of.items()}
-        match self.rng.choices([*parts], [*parts.values()])[0]:
+    def once(self, ways: dict[str, float]) -> None:
+        self.inputs.is_wide = IS_WIDE
+        match self.rng.choices([*ways], [*ways.values()])[0]:
             case "requests":
                 self.over_requests()
             case "talk":
@@ -368,8 +383,14 @@ class Search:
         print(f"FAILED: {reason}: {kept}", flush=True)
 
 
+def token_in(told: str) -> Token | None:
+    """The token at the end of what is told, if there is one."""
+    return read_token(told.rstrip("\n").rpartition(", token ")[2])
+
+
 def main() -> int:
-    if len(sys.argv) not in (2, 3, 4) or not all(word.isdecimal() for word in sys.argv[1:3]):
+    ways = {way: WAYS.get(way, 0.0) for way in sys.argv[4:] or WAYS}
+    if len(sys.argv) not in (2, 3, 4, 5) or not all(word.isdecimal() for word in sys.argv[1:3]) or not any(ways.values()):
         print(__doc__, file=sys.stderr)
         return 2
     seconds = int(sys.argv[1])
@@ -386,7 +407,7 @@ def main() -> int:
         while time.monotonic() < until and failed < FAILURES:
             inputs += 1
             try:
-                search.once()
+                search.once(ways)
             except Wrong as wrong:
                 search.keep(str(wrong))
                 failed += 1

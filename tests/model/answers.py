@@ -61,6 +61,20 @@ def obj(*pairs: tuple[str, Value]) -> Value:
     return Value("object", pairs)
 
 
+def replaced(value: Value, other: Value) -> Value:
+    """The same with another value in place of each double and decimal128."""
+    match value.kind:
+        case "double" | "decimal":
+            return other
+        case "object":
+            return obj(*((name, replaced(it, other)) for name, it in value.of))
+        case "array":
+            return Value("array", tuple(replaced(it, other) for it in value.of))
+        case "javascriptWithScope":
+            return Value(value.kind, (value.of[0], replaced(value.of[1], other)))
+    return value
+
+
 # Values in bytes and in texts.
 
 
@@ -369,6 +383,47 @@ def types_of(operand: Value) -> list[str] | None:
         else:
             return None
     return kinds if members else None
+
+
+# The types of numbers by their names and their numbers for `$type`.
+NUMBERS = {name: code for code, name in TYPES.items() if name in ("double", "int", "long", "decimal")}
+
+
+# How many classes of the types of numbers a query may split them into, in a session and in a run.
+IN_SESSIONS, IN_RUNS = 1, 2
+
+
+def types_place(query: Value, classes: int) -> str | None:
+    """The place of the first `$type` anywhere in a query that with those before it splits the four types of numbers into more classes."""
+    named = []
+    for place, types in types_named(query):
+        named.append(types)
+        if len({tuple(kind in it for it in named) for kind in NUMBERS}) > classes:
+            return ".".join(place)
+    return None
+
+
+def types_named(value: Value, place: tuple[str, ...] = ()) -> Iterator[tuple[tuple[str, ...], set[str]]]:
+    """Each `$type` anywhere in a value, in the order of its text: the names to it, and the types of numbers that it names."""
+    match value.kind:
+        case "object":
+            pairs = value.of
+        case "array":
+            pairs = [(str(index), it) for index, it in enumerate(value.of)]
+        case "javascriptWithScope":
+            pairs = [("$scope", value.of[1])]
+        case _:
+            return
+    for name, it in pairs:
+        if name == "$type" and value.kind == "object":
+            yield (*place, name), numbers_in(it)
+        yield from types_named(it, (*place, name))
+
+
+def numbers_in(operand: Value) -> set[str]:
+    """The types of numbers that an operand of `$type` names."""
+    members = [it.of for it in (operand.of if operand.kind == "array" else [operand]) if is_whole(it) or it.kind == "string"]
+    return {name for name, code in NUMBERS.items() if name in members or code in members or "number" in members}
 
 
 def check_filter(document: Value, place: tuple[str, ...] = (), level: int = 1) -> None:

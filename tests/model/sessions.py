@@ -8,8 +8,8 @@ from dataclasses import dataclass
 from typing import NamedTuple
 
 from model.answers import (
-    FILTER_WORDS, MOST, BadFilter, Dump, Index, Request, Token, Value, bounds_of, check_filter, encoded, is_whole, matches, obj, path_fault,
-    read_token, sort_pairs, written,
+    FILTER_WORDS, IN_RUNS, MOST, NULL, BadFilter, Dump, Index, Request, Token, Value, bounds_of, check_filter, encoded, is_whole, matches, obj,
+    path_fault, read_token, replaced, sort_pairs, string, types_place, written,
 )  # fmt: skip
 from model.texts import NOT_A_DOCUMENT, TEXT_WORDS, TextFault, advice, read_document
 
@@ -24,6 +24,8 @@ PATH_WORDS = ("empty component", "too many components")
 COMMAND_WORDS = ("unknown command", "missing field", "unknown field", "repeated field", "bad field")
 UNKNOWN_COMMAND, MISSING_FIELD, UNKNOWN_FIELD, REPEATED_FIELD, BAD_FIELD = range(1, 6)
 NUMBERS_WORDS = ("the types of numbers are not told apart here",)
+# The program that reads doubles and decimal128, and dates and UUIDs as texts.
+WIDE = "bsonwide"
 WORDS = {"command": COMMAND_WORDS, "path": PATH_WORDS, "session": SESSION_WORDS, "numbers": NUMBERS_WORDS}
 
 
@@ -40,8 +42,8 @@ class Refused(Exception):
 
 
 def request_of(query: Value, sort: Value, skip: int, limit: int) -> Request:
-    """A request, by the refusals in their order."""
-    check_filter(query)
+    """A request, by the refusals in their order. A double or a decimal128 may be only where a text may be too."""
+    check_filter(replaced(query, string("")))
     if sort_pairs(sort) is None:
         raise Refused("session", NOT_A_SORT)
     if max(skip, limit) > MOST:
@@ -61,9 +63,9 @@ def check_path(path: str) -> None:
         raise Refused("path", fault)
 
 
-def rest_after(dump: Dump, request: Request, token: Token) -> list[int]:
-    """What follows a token, where it is one of this dump and request."""
-    if token.tied != dump.tied(request):
+def rest_after(dump: Dump, request: Request, token: Token, tied: bytes) -> list[int]:
+    """What follows a token, where it is one of this dump and request, whose tokens have this digest."""
+    if token.tied != tied:
         raise Refused("session", FOREIGN_TOKEN)
     if token.last >= len(dump.documents):
         raise Refused("session", TOKEN_PLACE)
@@ -251,7 +253,7 @@ class Session:
     def resume(self, fields: dict[str, Value]) -> str:
         token = token_in(fields["resume"].of)
         request, use = self.request(fields, "filter")
-        left = rest_after(self.dump, request, token)
+        left = rest_after(self.dump, request, token, self.dump.tied(request))
         self.check_use(use)
         return self.open(left, request, token)
 
@@ -302,33 +304,43 @@ class Find(NamedTuple):
         """Its options; those that say nothing are left out."""
         return [f"--{name}={value}" for name, value in self._asdict().items() if value != self._field_defaults[name]]
 
-    def request(self) -> Request:
+    def request(self, program: str = "bsonfind") -> Request:
         values = []
-        for name, text in (("query", self.query), ("sort", self.sort)):
+        # A sort has no doubles.
+        for name, text, is_wide in (("query", self.query, program == WIDE), ("sort", self.sort, False)):
             try:
-                values.append(read_document(text.encode()))
+                values.append(read_document(text.encode(), is_wide))
             except TextFault as fault:
                 byte = "" if fault.number == NOT_A_DOCUMENT else f" byte {fault.at}:"
-                raise Told(f"{name}:{byte} {TEXT_WORDS[fault.number - 1]}") from None
+                raise Told(f"{name}:{byte} {words_of(text.encode(), fault, program)}") from None
         return request_of(*values, self.skip, self.limit)
 
-    def shown(self, dump: Dump) -> tuple[int, bytes, str]:
-        """The status, what is written, and what is told."""
+    def shown(self, dump: Dump, program: str = "bsonfind", fault: str = "") -> tuple[int, bytes, str]:
+        """The status, what is written, and what is told, over a dump with this fault, if any.
+
+        Where the query or the dump has a double or a decimal128, the token has no digest: it is that of codes, which no model makes.
+        """
         try:
-            request = self.request()
-            if self.index is not None and (fault := path_fault(self.index)):
-                raise Told(f"index: {PATH_WORDS[fault - 1]}")
+            request = self.request(program)
+            if self.index is not None and (number := path_fault(self.index)):
+                raise Told(f"index: {PATH_WORDS[number - 1]}")
             token = None if self.after is None else token_in(self.after)
-            left = dump.answer(request) if token is None else rest_after(dump, request, token)
+            if fault:
+                raise Told(fault)
+            by_value = has_numbers(request.query) or any(map(has_numbers, dump.documents))
+            if by_value and (place := types_place(request.query, IN_RUNS)) is not None:
+                raise Told(f"query: place {json.dumps(place, ensure_ascii=False)}: {NUMBERS_WORDS[0]}")
+            tied = b"" if by_value else dump.tied(request)
+            left = dump.answer(request) if token is None else rest_after(dump, request, token, tied)
         except Told as told:
-            return 1, b"", f"bsonfind: {told}\n"
+            return 1, b"", f"{program}: {told}\n"
         except BadFilter as bad:
             place = json.dumps(".".join(bad.place), ensure_ascii=False)
-            return 1, b"", f"bsonfind: query: place {place}: {FILTER_WORDS[bad.number - 1]}\n"
+            return 1, b"", f"{program}: query: place {place}: {FILTER_WORDS[bad.number - 1]}\n"
         except Refused as refused:
             name = "sort" if refused.number == NOT_A_SORT else "token"
-            return 1, b"", f"bsonfind: {name}: {SESSION_WORDS[refused.number - 1]}\n"
-        cursor = Cursor(left, request, dump.tied(request), token)
+            return 1, b"", f"{program}: {name}: {SESSION_WORDS[refused.number - 1]}\n"
+        cursor = Cursor(left, request, tied, token)
         places, end, text = cursor.next(len(left) if self.batch is None else self.batch)
         lines = b"".join(written(dump.documents[place]).encode() + b"\n" for place in places)
         return 0, lines, f"{len(places)} documents, {'end' if end else 'more'}{f', token {text}' if text else ''}\n"
@@ -339,6 +351,17 @@ def request_text(query: str = "{}", sort: str = "{}", skip: int = 0, limit: int 
     return Find(query, sort, skip, limit).request().text()
 
 
+def has_numbers(value: Value) -> bool:
+    """Whether a value has a double or a decimal128."""
+    return replaced(value, NULL) != value
+
+
+def words_of(text: bytes, fault: TextFault, program: str) -> str:
+    """What is wrong with a text; `bsonwide` also says what to write in place of it, if it knows."""
+    more = advice(text, fault) if program == WIDE else None
+    return f"{TEXT_WORDS[fault.number - 1]}{f'; {more}' if more else ''}"
+
+
 def packed(text: bytes, program: str = "bsonfind") -> tuple[int, bytes, str]:
     """The status of `pack` of a program, what it writes, and what it tells."""
     documents = []
@@ -346,10 +369,9 @@ def packed(text: bytes, program: str = "bsonfind") -> tuple[int, bytes, str]:
         if not line.strip(b" \t\r"):
             continue
         try:
-            documents.append(encoded(read_document(line, program == "bsonwide")))
+            documents.append(encoded(read_document(line, program == WIDE)))
         except TextFault as fault:
             byte = "" if fault.number == NOT_A_DOCUMENT else f", byte {fault.at}"
-            more = advice(line, fault) if program == "bsonwide" else None
-            told = f"line {number}{byte}: {TEXT_WORDS[fault.number - 1]}{f'; {more}' if more else ''}"
+            told = f"line {number}{byte}: {words_of(line, fault, program)}"
             return 1, b"".join(documents), f"{program}: {told}\n{len(documents)} objects packed\n"
     return 0, b"".join(documents), f"{len(documents)} objects packed\n"

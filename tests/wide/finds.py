@@ -23,10 +23,10 @@ from pathlib import Path
 
 sys.path[:0] = [str(Path(__file__).resolve().parents[1]), str(Path(__file__).resolve().parents[2] / "python")]
 
-from model.answers import BadFilter, Dump, Request, check_filter, path_fault, sort_pairs
+from model.answers import IN_RUNS, BadFilter, Dump, Request, check_filter, path_fault, sort_pairs, types_place
 from support import PROGRAM as BUILT
 from support import Tests, usage_of
-from questions import IN_RUNS, NOT_TOLD, WideInputs, types_place
+from questions import NOT_TOLD, WideInputs
 
 PROGRAM = str(Path(sys.argv[1]).resolve()) if len(sys.argv) > 1 else str(BUILT.with_name("bsonwide"))
 DUMPS = int(sys.argv[2]) if len(sys.argv) > 2 else 40

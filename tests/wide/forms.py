@@ -14,8 +14,9 @@ from uuid import UUID
 
 sys.path.insert(0, str(Path(__file__).resolve().parents[1]))
 
-from model.answers import encoded
-from model.texts import NOT_A_DOCUMENT, TEXT_WORDS, WORDS, TextFault, advice, date_in, read_document
+from model import sessions
+from model.answers import Dump
+from model.texts import WORDS, date_in
 from support import ROOT, Tests
 
 PROGRAM = Path(sys.argv[1]).resolve() if len(sys.argv) > 1 else ROOT / "bsonwide"
@@ -73,19 +74,10 @@ def damaged(line: str) -> str:
     return line[:at] + RNG.choice(["", RNG.choice('"{}[]:,0-9Tx. $')]) + line[at + RNG.randrange(2) :]
 
 
-def words_of(fault: TextFault, text: str) -> str:
-    """What is wrong with a text, and what to write instead, by the model."""
-    more = advice(text.encode(), fault)
-    return f"{TEXT_WORDS[fault.number - 1]}{f'; {more}' if more else ''}"
-
-
 def packed(line: str) -> tuple[bytes, bytes]:
     """What `pack` writes and says of a line, by the model."""
-    try:
-        return encoded(read_document(line.encode(), is_wide=True)), b"1 objects packed\n"
-    except TextFault as fault:
-        at = "" if fault.number == NOT_A_DOCUMENT else f", byte {fault.at}"
-        return b"", f"bsonwide: line 1{at}: {words_of(fault, line)}\n0 objects packed\n".encode()
+    _, documents, said = sessions.packed(line.encode(), sessions.WIDE)
+    return documents, said.encode()
 
 
 def pack(text: str) -> tuple[bytes, bytes]:
@@ -95,18 +87,8 @@ def pack(text: str) -> tuple[bytes, bytes]:
 
 def asked(option: str, text: str) -> tuple[int, bytes, str]:
     """What `find` says of a text over a dump of no documents."""
-    made = subprocess.run([PROGRAM, "find", "-", f"{option}={text}"], input=b"", capture_output=True, check=False)
+    made = subprocess.run([PROGRAM, "find", "-", f"--{option}={text}"], input=b"", capture_output=True, check=False)
     return made.returncode, made.stdout, made.stderr.decode()
-
-
-def refused(option: str, text: str, is_wide: bool) -> tuple[int, bytes, str] | None:
-    """The same by the model; None if the text is a document."""
-    try:
-        read_document(text.encode(), is_wide)
-    except TextFault as fault:
-        at = "" if fault.number == NOT_A_DOCUMENT else f" byte {fault.at}:"
-        return 1, b"", f"bsonwide: {option.removeprefix('--')}:{at} {words_of(fault, text)}\n"
-    return None
 
 
 def try_advice(tests: Tests) -> None:
@@ -126,16 +108,16 @@ def try_advice(tests: Tests) -> None:
         ('{"a":nul}', "byte 8: not JSON"), ('{"a":x}', "byte 5: not JSON"), ("[]", "not a document"), ('{"a":1 :2}', "byte 7: not JSON"),
         ('{"a":{"$code":5}}', "byte 5: bad wrapper"), ('{"a":1}ObjectId(', "byte 7: text after the document"), ("{", "byte 1: not JSON"),
     ):  # fmt: skip
-        tests.want(text, asked("--query", text) == (1, b"", f"bsonwide: query: {said}\n"), asked("--query", text))
+        tests.want(text, asked("query", text) == (1, b"", f"bsonwide: query: {said}\n"), asked("query", text))
         line = f"bsonwide: line 2{', ' if said.startswith('byte') else ': '}{said}\n1 objects packed\n"
         tests.want(f"line {text}", pack(f"{{}}\n{text}\n{{}}\n") == (bytes([5, 0, 0, 0, 0]), line.encode()), pack(f"{{}}\n{text}\n{{}}\n"))
     texts = [f'{{"a":{new}{word}"x")}}' for word in WORDS for new in ("", "new ", "[1,")]
     texts += [f"{{{blank()}{name}{blank()}:1}}" for name in ("a", "$or", "a.b", "_id", "5", "größe", "a-b", "a b")]
     texts += [f'{{"a":{{{blank()}"${name}"{blank()}:{of}}}}}' for name in (*NAMED, "code", "x") for of in ("5", '"no"', '{"a":1}', '"5","b":1')]
     for text in [*texts, *(damaged(RNG.choice(texts)) for _ in range(LINES // 10))]:
-        for option, is_wide in (("--query", True), ("--sort", False)):
-            wanted = refused(option, text, is_wide)
-            tests.want(f"{option} {text}", wanted is None or asked(option, text) == wanted, (asked(option, text), wanted))
+        for option in ("query", "sort"):
+            wanted = sessions.Find(**{option: text}).shown(Dump([]), sessions.WIDE)
+            tests.want(f"{option} {text}", asked(option, text) == wanted, (asked(option, text), wanted))
         tests.want(f"pack {text}", pack(f"{text}\n") == packed(text), (pack(f"{text}\n"), packed(text)))
 
 

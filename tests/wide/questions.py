@@ -13,12 +13,14 @@ import random
 import struct
 import sys
 import tempfile
-from collections.abc import Callable, Iterator
+from collections.abc import Callable
 from pathlib import Path
 
 sys.path[:0] = [str(Path(__file__).resolve().parents[1]), str(Path(__file__).resolve().parents[2] / "python")]
 
-from model.answers import BadFilter, Dump, Request, Value, check_filter, encoded, number, obj, path_fault, sort_pairs, string
+from model.answers import (
+    IN_RUNS, IN_SESSIONS, NUMBERS, BadFilter, Dump, Request, Value, check_filter, encoded, number, obj, path_fault, sort_pairs, string, types_place,
+)  # fmt: skip
 from model.inputs import Inputs
 from model.texts import decimal_in
 from support import PROGRAM as BUILT
@@ -54,8 +56,6 @@ def decimal(text: str) -> Value:
     return Value("decimal", decimal_in(text))
 
 
-# The types of numbers by their names and their numbers for `$type`.
-NUMBERS = {"double": 1, "int": 16, "long": 18, "decimal": 19}
 # Numbers with fractions, some of which are doubles and some amounts.
 MIXED = [*map(double, (0.1, 0.3, 9.99)), *map(decimal, ("0.1", "0.3", "9.99"))]
 
@@ -121,8 +121,6 @@ class WideInputs(Inputs):
 
 
 NOT_TOLD = "the types of numbers are not told apart here"
-# Into how many classes of types of numbers a query may split them.
-IN_SESSIONS, IN_RUNS = 1, 2
 
 
 class Asking:
@@ -209,38 +207,6 @@ class Asking:
         places = None if fault else model.answer(request._replace(sort=obj()) if is_count else request)
         wanted = None if places is None else len(places) if is_count else [encoded(model.documents[place]) for place in places]
         self.tests.want(name, found == wanted, (found, wanted))
-
-
-def types_place(query: Value, classes: int) -> str | None:
-    """The place of the first `$type` anywhere in a query that with those before it splits the four types of numbers into more classes."""
-    named = []
-    for place, types in _types_named(query):
-        named.append(types)
-        if len({tuple(kind in it for it in named) for kind in NUMBERS}) > classes:
-            return ".".join(place)
-    return None
-
-
-def _types_named(value: Value, place: tuple[str, ...] = ()) -> Iterator[tuple[tuple[str, ...], set[str]]]:
-    """Each `$type` anywhere in a value, in the order of its text: the names to it, and the types of numbers that it names."""
-    match value.kind:
-        case "object":
-            pairs = value.of
-        case "array":
-            pairs = [(str(index), it) for index, it in enumerate(value.of)]
-        case "javascriptWithScope":
-            pairs = [("$scope", value.of[1])]
-        case _:
-            return
-    for name, it in pairs:
-        if name == "$type" and value.kind == "object":
-            yield (*place, name), _named(it)
-        yield from _types_named(it, (*place, name))
-
-
-def _named(operand: Value) -> set[str]:
-    members = [it.of for it in (operand.of if operand.kind == "array" else [operand])]
-    return {name for name, number in NUMBERS.items() if name in members or number in members or "number" in members}
 
 
 class Raw(str):

@@ -21,11 +21,11 @@ from pathlib import Path
 
 sys.path[:0] = [str(Path(__file__).resolve().parents[1]), str(Path(__file__).resolve().parents[2] / "python")]
 
-from model.answers import Dump, Request, Value, obj, read_token, written
+from model.answers import IN_SESSIONS, Dump, Request, Value, obj, read_token, types_place, written
 from model.sessions import Refused, Session
 from support import PROGRAM as BUILT
 from support import Tests
-from questions import IN_SESSIONS, WideInputs, types_place
+from questions import WideInputs
 
 PROGRAM = str(Path(sys.argv[1]).resolve()) if len(sys.argv) > 1 else str(BUILT.with_name("bsonwide"))
 OTHER = str(Path(PROGRAM).with_name("bsonfind"))
