@@ -64,7 +64,7 @@ fn splits(alloc: Global) -> Result<bool, RowFault> {
     };
     let mut path = Vec::new(alloc);
     write_path(&split.path, &mut path)?;
-    Ok(path.as_slice() == b"\"$or.1.a.$type\"")
+    Ok(path.as_slice() == b"\"$or.1.a.$type\"".as_slice())
 }
 
 /// At most 2, with codes: 1 and 2 are, and neither NaN nor more is.
