@@ -190,7 +190,7 @@ class Interrupts(Room):
         self.addCleanup(session.close)
         cursor = session.find(batch_size=40, decode="bytes")
         found = [next(cursor) for _ in range(40)]
-        interrupt = mock.patch("bsonfind._ask.plans.receive", side_effect=KeyboardInterrupt)
+        interrupt = mock.patch("bsonfind._ask.plans.Transport.receive", side_effect=KeyboardInterrupt)
         with interrupt, self.assertRaises(KeyboardInterrupt):
             next(cursor)
         for _ in range(2):

@@ -4,6 +4,7 @@ from __future__ import annotations
 
 import asyncio
 import os
+import threading
 from functools import partial
 from typing import Any, AsyncIterator, Awaitable, Callable, TypeVar, overload
 
@@ -11,7 +12,7 @@ from .._arguments import File, name_of_file, seconds
 from .._errors import CancelledError, SessionEndedError
 from .._run.processes import Group, check_owner
 from .decoding import Decode, Decoding, Dicts, Raw
-from .plans import PIECE, Alone, Plan, Receive, Send, Work
+from .plans import PIECE, Plan
 from .questions import Questions
 from .readings import Reading
 from .requests import Filter, Hint, Request, Sort, use_of
@@ -44,7 +45,7 @@ class AsyncSession:
             if self._group.is_ended:
                 raise SessionEndedError(str(self._group.error))
             try:
-                self._questions = await in_thread(self._opened)
+                self._questions = await self._loop.work(self._opened)
             except BaseException:
                 self._group.end(SessionEndedError("the dump was not read"))
                 raise
@@ -160,7 +161,7 @@ class AsyncSession:
         self._group.end(SessionEndedError("the session was closed"))
         if self._questions:
             async with self._loop.lock:
-                await in_thread(self._questions.close)
+                await self._loop.work(self._questions.close)
 
     async def __aenter__(self) -> AsyncSession:
         return await self.open()
@@ -211,7 +212,7 @@ class AsyncCursor(AsyncIterator[T]):
 
 
 class Loop:
-    """Tasks may share it: a command has its reply before the next one is sent."""
+    """A transport that waits by an event loop. Tasks may share it: a command has its reply before the next one is sent."""
 
     def __init__(self) -> None:
         self._lock: asyncio.Lock | None = None
@@ -222,7 +223,7 @@ class Loop:
             step = next(plan)
             while True:
                 try:
-                    done = await self._done(step)
+                    done = await step(self)
                 except BaseException as error:  # noqa: BLE001 - the plan says what comes of it
                     step = plan.throw(error)
                 else:
@@ -239,49 +240,37 @@ class Loop:
         self._lock = self._lock or asyncio.Lock()
         return self._lock
 
-    async def _done(self, step: Send | Receive | Work | Alone) -> Any:
-        if isinstance(step, Work):
-            return await in_thread(step.do)
-        if isinstance(step, Alone):
-            async with self.lock:
-                return await self.do(step.plan)
-        os.set_blocking(step.pipe, False)
-        return await (_send(step) if isinstance(step, Send) else _receive(step))
+    async def alone(self, _: threading.Lock, plan: Plan[T]) -> T:
+        async with self.lock:
+            return await self.do(plan)
+
+    async def work(self, call: Callable[[], T]) -> T:
+        return await asyncio.get_running_loop().run_in_executor(None, call)
+
+    async def send(self, pipe: int, data: bytes) -> None:
+        os.set_blocking(pipe, False)
+        loop, rest = asyncio.get_running_loop(), memoryview(data)
+        while rest:
+            try:
+                rest = rest[os.write(pipe, rest) :]
+            except BlockingIOError:
+                await _ready(pipe, loop.add_writer, loop.remove_writer)
+
+    async def receive(self, pipe: int) -> bytes:
+        os.set_blocking(pipe, False)
+        loop = asyncio.get_running_loop()
+        while True:
+            try:
+                return os.read(pipe, PIECE)
+            except BlockingIOError:
+                await _ready(pipe, loop.add_reader, loop.remove_reader)
 
 
-async def in_thread(call: Callable[[], T]) -> T:
-    """What a call gives that waits."""
-    return await asyncio.get_running_loop().run_in_executor(None, call)
-
-
-async def _send(step: Send) -> None:
-    loop, rest = asyncio.get_running_loop(), memoryview(step.data)
-    while rest:
-        try:
-            rest = rest[os.write(step.pipe, rest) :]
-        except BlockingIOError:
-            await _ready(step.pipe, loop.add_writer, loop.remove_writer)
-
-
-async def _receive(step: Receive) -> bytes:
-    loop = asyncio.get_running_loop()
-    while True:
-        try:
-            return os.read(step.pipe, PIECE)
-        except BlockingIOError:
-            await _ready(step.pipe, loop.add_reader, loop.remove_reader)
-
-
-async def _ready(pipe: int, add: Callable[..., None], remove: Callable[[int], object]) -> None:
+async def _ready(pipe: int, add: Callable[..., object], remove: Callable[[int], object]) -> None:
     """Waits until a pipe takes or has bytes, or its other end is closed."""
-    ready = asyncio.get_running_loop().create_future()
-    add(pipe, _wake, ready)
+    ready = asyncio.Event()
+    add(pipe, ready.set)
     try:
-        await ready
+        await ready.wait()
     finally:
         remove(pipe)
-
-
-def _wake(ready: asyncio.Future[None]) -> None:
-    if not ready.done():
-        ready.set_result(None)

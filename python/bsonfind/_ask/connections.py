@@ -5,11 +5,12 @@ from __future__ import annotations
 import re
 import threading
 from collections import deque
+from contextlib import suppress
 from typing import Any, Callable, NamedTuple, Sequence
 
 from .._errors import ArgumentError, CancelledError, CommandError, SessionEndedError, TimedOutError
 from .._run.processes import Dump, Group, Run, wide_program
-from .plans import Alone, Plan, Receive, Send, Work, now
+from .plans import Plan, now
 from .replies import read_reply
 from .requests import Request, Use, text_of, text_of_pairs
 
@@ -70,7 +71,7 @@ class Connection:
 
     def ask(self, command: Command) -> Plan[bytes | None]:
         """The reply to a command, None if it is longer than the command says."""
-        reply: bytes | None = yield Alone(self._lock, self._exchange(command))
+        reply: bytes | None = yield lambda it: it.alone(self._lock, self._exchange(command))
         self._check()
         return reply
 
@@ -124,7 +125,7 @@ class Connection:
             self._end("a reply was interrupted")
             raise
         if reply == b"":
-            error = yield Work(self._run.error)
+            error = yield lambda it: it.work(self._run.error)
             self._end(str(error))
             raise error if isinstance(error, (CancelledError, TimedOutError)) else SessionEndedError(str(error))
         return reply
@@ -133,9 +134,9 @@ class Connection:
         """Sends a command and reads the reply; nothing where the program has ended."""
         pieces: list[bytes] = []
         size = 0
-        try:
-            yield Send(self._run.stdin.fileno(), command.line + b"\n")
-            while piece := (yield Receive(self._run.stdout.fileno())):
+        with suppress(BrokenPipeError):  # The end of the run says why.
+            yield lambda it: it.send(self._run.stdin.fileno(), command.line + b"\n")
+            while piece := (yield lambda it: it.receive(self._run.stdout.fileno())):
                 size += len(piece)
                 if is_long := command.most is not None and size > command.most:
                     pieces.clear()
@@ -143,8 +144,6 @@ class Connection:
                     pieces.append(piece)
                 if piece.endswith(b"\n"):
                     return None if is_long else b"".join(pieces)
-        except BrokenPipeError:
-            pass  # The end of the run says why.
         return b""
 
     def _end(self, reason: str) -> None:

@@ -1,47 +1,47 @@
-"""What a session does, one thing after the other. What decides is a plan, and whoever carries it out only moves bytes.
+"""What a session does, one thing after the other. What decides is a plan, and a transport only moves bytes and waits.
 
-A plan is a generator: it yields what is to be done, is sent what came of that, and returns what was asked for. `now` carries it out by
-calls that wait, and `loops` by an event loop.
+A plan is a generator: it yields what is asked of a transport, is sent what came of that, and returns what was asked for. `now` carries it
+out by calls that wait, and the `Loop` of `aio` by an event loop.
 """
 
 from __future__ import annotations
 
 import os
 import threading
-from typing import Any, Callable, Generator, NamedTuple, TypeVar, Union
+from typing import Any, Callable, Generator, TypeVar
 
 T = TypeVar("T")
+# What a plan asks of a transport, a `Transport` or one whose methods are awaited.
+Step = Callable[[Any], Any]
+Plan = Generator[Step, Any, T]
 # How many bytes are received at once at most.
 PIECE = 1 << 20
 
 
-class Send(NamedTuple):
-    """Bytes for the pipe to a program; one that reads no more is a `BrokenPipeError`."""
+class Transport:
+    """What waits by calls."""
 
-    pipe: int
-    data: bytes
+    def send(self, pipe: int, data: bytes) -> None:
+        """Writes to the pipe to a program; one that reads no more is a `BrokenPipeError`."""
+        rest = memoryview(data)
+        while rest:
+            rest = rest[os.write(pipe, rest) :]
 
+    def receive(self, pipe: int) -> bytes:
+        """The next bytes of the pipe from a program, none at its end. They are read around its buffer, of which a fork would make a copy."""
+        return os.read(pipe, PIECE)
 
-class Receive(NamedTuple):
-    """The next bytes of the pipe from a program, none at its end."""
+    def work(self, call: Callable[[], T]) -> T:
+        """What a call gives that takes long and waits, such as for a copy that is written."""
+        return call()
 
-    pipe: int
-
-
-class Work(NamedTuple):
-    """A call that takes long and waits, such as for a copy that is written."""
-
-    do: Callable[[], Any]
-
-
-class Alone(NamedTuple):
-    """A plan that no other thread or task may interrupt."""
-
-    lock: threading.Lock
-    plan: Plan[Any]
+    def alone(self, lock: threading.Lock, plan: Plan[T]) -> T:
+        """What a plan comes to that no other thread or task may interrupt."""
+        with lock:
+            return now(plan)
 
 
-Plan = Generator[Union[Send, Receive, Work, Alone], Any, T]
+_WAITING = Transport()
 
 
 def now(plan: Plan[T]) -> T:
@@ -50,7 +50,7 @@ def now(plan: Plan[T]) -> T:
         step = next(plan)
         while True:
             try:
-                done = _done(step)
+                done = step(_WAITING)
             except BaseException as error:  # noqa: BLE001 - the plan says what comes of it
                 step = plan.throw(error)
             else:
@@ -60,22 +60,3 @@ def now(plan: Plan[T]) -> T:
         return result
     finally:
         plan.close()
-
-
-def _done(step: Send | Receive | Work | Alone) -> Any:
-    if isinstance(step, Send):
-        rest = memoryview(step.data)
-        while rest:
-            rest = rest[os.write(step.pipe, rest) :]
-        return None
-    if isinstance(step, Receive):
-        return receive(step.pipe)
-    if isinstance(step, Alone):
-        with step.lock:
-            return now(step.plan)
-    return step.do()
-
-
-def receive(pipe: int) -> bytes:
-    """The next bytes of a pipe. They are read around its buffer, of which a fork would make a copy."""
-    return os.read(pipe, PIECE)

@@ -4,7 +4,7 @@ from __future__ import annotations
 
 import os
 import threading
-from contextlib import AbstractContextManager
+from contextlib import AbstractContextManager, suppress
 from typing import Any, Callable, Sequence, TypeVar
 
 from .._arguments import File, name_of_file
@@ -13,7 +13,7 @@ from .._dumps.sources import Source
 from .._errors import SessionEndedError
 from .._run.processes import Dump, Group, check_owner
 from .connections import Connection, NotTaken
-from .plans import Plan, Work, now
+from .plans import Plan, now
 from .requests import Request, Use
 
 T = TypeVar("T")
@@ -71,12 +71,10 @@ class Questions(AbstractContextManager["Questions"]):
     def ask(self, make: Callable[[Connection], Plan[T]]) -> Plan[T]:
         """What a plan comes to by the connection that takes its commands. Where one refuses a double the other one is asked."""
         self.check()
-        try:
+        with suppress(NotTaken):  # The other one says what comes of it.
             return (yield from make(self._connections[0]))
-        except NotTaken:
-            pass  # The other one says what comes of it.
         if len(self._connections) == 1:
-            yield Work(self._open_second)
+            yield lambda it: it.work(self._open_second)
         return (yield from make(self._connections[1]))
 
     def _open_second(self) -> None:

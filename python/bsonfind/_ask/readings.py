@@ -9,7 +9,7 @@ from .._arguments import whole
 from .._errors import CommandError, CursorStateError, DumpError
 from .connections import Command, Connection, kill
 from .decoding import Decoding, Parsed, Texts
-from .plans import Plan, Work
+from .plans import Plan
 from .questions import Questions
 from .replies import Batch, read_batch
 from .requests import Request, Use, text_of
@@ -128,7 +128,7 @@ class Reading(Generic[T]):
         """The documents of a batch, and how many bytes they have; None if that is too much to be kept."""
         if isinstance(batch.found, bytes):
             return self._decoding.batch(batch.found), len(batch.found)
-        found = yield Work(partial(questions.documents, batch.found, MOST_BYTES if size > 1 else None))
+        found = yield lambda it: it.work(partial(questions.documents, batch.found, MOST_BYTES if size > 1 else None))
         return None if found is None else (Texts(found, self._decoding.document_of), sum(map(len, found)))
 
     def explain(self, questions: Questions) -> Plan[dict[str, Any]]:
