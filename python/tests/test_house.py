@@ -122,7 +122,7 @@ DECIDES = {
 # Each clause that catches any error, and what becomes of that: none is lost.
 WIDE = {
     "_ask/aio.AsyncSession.open": "ends the session, and raises it",
-    "_ask/answers.Answer._read_on": "ends the timer, and raises it",
+    "_ask/answers.Answer._read_on": "takes what is known of the end, and raises it",
     "_ask/connections.Connection.__init__": "ends the run, and raises it",
     "_ask/connections.Connection._reply": "ends the run, and raises it",
     "_ask/decoding.Texts.give": "goes on to the next document, and raises it",

@@ -27,11 +27,10 @@ class Answer(Iterator[T], AbstractContextManager["Answer[T]"]):
     next call gives the documents after it; an answer that was interrupted while it read says so by a `CursorStateError`.
     """
 
-    def __init__(self, lines: Lines, group: Group, decoding: Decoding, timeout: float | None) -> None:
+    def __init__(self, lines: Lines, decoding: Decoding) -> None:
         self.token: str | None = None
         self.end = False
         self._lines, self._batches = lines, lines.batches()
-        self._group, self._timeout = group, seconds(timeout)
         self._document_of: Callable[[bytes], T] = decoding.document_of
         self._owner = os.getpid()
         self._texts: Texts[T] = Texts([], self._document_of)
@@ -48,37 +47,27 @@ class Answer(Iterator[T], AbstractContextManager["Answer[T]"]):
         """Reads the next lines; ends the iteration if there are none."""
         if not self._is_known:
             raise CursorStateError("interrupted while documents were read: ask again")
-        if self._timeout is not None:
-            timeout, self._timeout = self._timeout, None
-            self._group.end_after(timeout)
         self._is_known = False
         try:
             batch = next(self._batches)
-        except StopIteration:
-            self.end, self.token = self._lines.end, self._lines.token
-            self._finish()
-            raise
         except Exception:
-            self._finish()
+            # Nothing has changed of these unless it is the end of the answer.
+            self.end, self.token, self._is_known = self._lines.end, self._lines.token, True
             raise
         self._texts = Texts(batch, self._document_of)
-        self._is_known = True
-
-    def _finish(self) -> None:
-        self._group.rest()
         self._is_known = True
 
     def cancel(self) -> None:
         """Ends the program at once, from any thread: a call that waits for a document gets a `CancelledError`."""
         check_owner(self._owner)
-        self._group.end(CancelledError("cancelled"))
+        self._lines.group.end(CancelledError("cancelled"))
 
     def close(self) -> None:
         """Ends the program; no document follows."""
         check_owner(self._owner)
         self._batches.close()
         self._texts = Texts([], self._document_of)
-        self._finish()
+        self._is_known = True
 
     def __exit__(self, *_: object) -> None:
         self.close()
@@ -116,12 +105,11 @@ def find(
     on a path, and changes no answer. `uuid_representation` says, by pymongo's names, how a `UUID` is asked for, and which values
     are one for `decode="plain"` and `"pymongo"`. Where the whole answer is not there within `timeout` seconds, that is a `TimedOutError`.
     """
-    request, group = Request.of(filter, sort, skip, limit, uuid_representation), Group()
+    request = Request.of(filter, sort, skip, limit, uuid_representation)
     whole("batch_size", batch_size)
     size = None if page is None else whole("page", page)
     decoding = Decoding(decode, uuid_representation)
-    lines = Lines(name_of(path), request, program, is_bson=decoding.is_of_bytes, size=size, index=index, after=after, group=group)
-    return Answer(lines, group, decoding, timeout)
+    return Answer(Lines(name_of(path), request, program, decoding.is_of_bytes, size, index, after, timeout=seconds(timeout)), decoding)
 
 
 # fmt: off
@@ -160,9 +148,8 @@ def count_documents(
     timeout: float | None = None,
 ) -> int:
     """How many documents of a dump match."""
-    request, group = Request.of(filter, uuids=uuid_representation), Group()
-    with group.within(seconds(timeout)):
-        return Lines(name_of(path), request, program, group=group).count()
+    request = Request.of(filter, uuids=uuid_representation)
+    return Lines(name_of(path), request, program, timeout=seconds(timeout)).count()
 
 
 def distinct(

@@ -62,7 +62,8 @@ class Lines:
     size: int | None = None
     index: str | None = None
     after: str | None = None
-    group: Group | None = None
+    group: Group = field(default_factory=Group)
+    timeout: float | None = None
     # Whether nothing follows the lines, and the token that leads on; known once all are read.
     end: bool = field(default=False, init=False)
     token: str | None = field(default=None, init=False)
@@ -75,8 +76,9 @@ class Lines:
                 number += len(some)
                 check()
                 yield some
-            _documents, self.end, self.token = counted(run, number)
+            found = counted(run, number)
             check()
+        self.end, self.token = found.end, found.token
 
     def count(self) -> int:
         """How many lines there are."""
@@ -94,6 +96,7 @@ class Lines:
         options = (("batch", self.size), ("index", self.index), ("after", self.after))
         words = [*(f"--{name}={value}" for name, value in options if value is not None), *more]
         with ExitStack() as files:
+            files.enter_context(self.group.within(self.timeout))
             dump: Dump
             check: Callable[[], None] = lambda: None
             if isinstance(self._dump, Dump):
@@ -115,4 +118,4 @@ def documents_of(pipe: BufferedReader) -> Batches:
 
 def try_request(request: Request, program: str, group: Group | None = None) -> None:
     """Asks no documents, so that a refused request is raised."""
-    Lines(Dump(), request, program, group=group).count()
+    Lines(Dump(), request, program, group=group or Group()).count()

@@ -13,7 +13,7 @@ What is found goes from the parts to the whole as the documents are in the dump,
 from __future__ import annotations
 
 from concurrent.futures import ThreadPoolExecutor
-from contextlib import AbstractContextManager
+from contextlib import ExitStack
 from functools import partial
 from typing import Any, Callable, Iterable, Iterator, NamedTuple, Sequence, TypeVar, overload
 
@@ -93,7 +93,8 @@ def count_parts(
     request = Request.of(filter, uuids=uuid_representation)
     with _Asking(program, workers, map, timeout) as asking:
         asking.try_request(request)
-        return sum(asking.each(parts, partial(_count, request, program)))
+        counts = asking.each(parts, partial(_count, request, program))
+    return sum(counts)
 
 
 def check_parts(
@@ -106,17 +107,19 @@ def check_parts(
     return Check(sum(it.documents for it in checks), [fault for it in checks for fault in it.faults])
 
 
-class _Asking(AbstractContextManager["_Asking"]):
+class _Asking(ExitStack):
     """The asking of parts: how they are run, and what ends all of them."""
 
     def __init__(self, program: str, workers: int, map: Map | None, timeout: float | None) -> None:
+        super().__init__()
         self._program, self._workers, self._map = program, whole("workers", workers, 1), map
         if not (map is None or callable(map)):
             raise ArgumentError(f"map is a function, not {map!r}")
         if map and workers != 1:
             raise ArgumentError("workers and map both say how the parts are run: give one of them")
         self.group = Group()
-        self.group.end_after(seconds(timeout))
+        self.callback(self.group.end)
+        self.enter_context(self.group.within(seconds(timeout)))
 
     def try_request(self, request: Request) -> None:
         """Asks no documents, so that a refused request or a missing program is reported before any part is asked."""
@@ -151,10 +154,6 @@ class _Asking(AbstractContextManager["_Asking"]):
                 except BaseException:
                     self.group.end()
                     raise
-
-    def __exit__(self, *_: object) -> None:
-        self.group.rest()
-        self.group.end()
 
 
 def _asked(ask: Callable[[Group, Part], T], group: Group, part: Part) -> tuple[Part, T]:

@@ -40,7 +40,6 @@ class Group:
     def __init__(self) -> None:
         self._lock = threading.Lock()
         self._processes: set[subprocess.Popen[bytes]] = set()
-        self._timer: threading.Timer | None = None
         self.is_ended = False
         # Why it was ended, where that is an error. Each run has it then.
         self.error: BsonfindError | None = None
@@ -72,29 +71,15 @@ class Group:
     @contextmanager
     def within(self, timeout: float | None) -> Iterator[None]:
         """Ends the group where what is done meanwhile takes longer than this many seconds."""
-        timer = self._timer_of(timeout)
-        try:
-            yield
-        finally:
-            if timer:
-                timer.cancel()
-
-    def _timer_of(self, timeout: float | None) -> threading.Timer | None:
         if timeout is None:
-            return None
+            yield
+            return
         timer = threading.Timer(timeout, self.end, [TimedOutError(f"no answer within {timeout:g} seconds")])
         timer.daemon = True
         timer.start()
-        return timer
-
-    def end_after(self, timeout: float | None) -> None:
-        """Ends the group once this many seconds have passed, unless `rest` comes first."""
-        self._timer = self._timer_of(timeout)
-
-    def rest(self) -> None:
-        """Takes back what `end_after` has set."""
-        timer, self._timer = self._timer, None
-        if timer:
+        try:
+            yield
+        finally:
             timer.cancel()
 
     def __reduce__(self) -> tuple[type[Group], tuple[()]]:
