@@ -18,25 +18,22 @@ from __future__ import annotations
 # What a checker of types reads in place of `typing.TYPE_CHECKING`: `typing` takes longer to import than all that is here.
 TYPE_CHECKING = False
 if TYPE_CHECKING:
-    from ._ask.aio import AsyncCursor as AsyncCursor, AsyncSession as AsyncSession
-    from ._ask.answers import Answer as Answer, count_documents as count_documents, distinct as distinct
-    from ._ask.answers import explain as explain, find as find, find_one as find_one
-    from ._ask.frames import to_dicts as to_dicts, to_pandas as to_pandas
-    from ._ask.merge import Check as Check, check_parts as check_parts, count_parts as count_parts, find_parts as find_parts
-    from ._ask.sessions import Cursor as Cursor, Session as Session
-    from ._ask.values import ObjectId as ObjectId
-    from ._backup.audit import audit as audit
-    from ._backup.reports import Audit as Audit, Report as Report
-    from ._backup.salvage import LeftOut as LeftOut, Salvaged as Salvaged, salvage as salvage
-    from ._backup.unpack import Collection as Collection, Unpacked as Unpacked, unpack as unpack
-    from ._dumps.files import FileState as FileState
-    from ._dumps.gzip import UnpackError as UnpackError
-    from ._dumps.parts import Part as Part, PartError as PartError, plan as plan
-    from ._errors import ArgumentError as ArgumentError, BsonfindError as BsonfindError, CancelledError as CancelledError
-    from ._errors import CommandError as CommandError, CursorStateError as CursorStateError, DumpError as DumpError
-    from ._errors import FileError as FileError, OtherProcessError as OtherProcessError, ProgramError as ProgramError
-    from ._errors import SessionEndedError as SessionEndedError, TimedOutError as TimedOutError
-    from ._faults import Fault as Fault
+    from ._ask.aio import AsyncCursor, AsyncSession
+    from ._ask.answers import Answer, count_documents, distinct, explain, find, find_one
+    from ._ask.frames import to_dicts, to_pandas
+    from ._ask.merge import Check, check_parts, count_parts, find_parts
+    from ._ask.sessions import Cursor, Session
+    from ._ask.values import ObjectId
+    from ._backup.audit import audit
+    from ._backup.reports import Audit, Report
+    from ._backup.salvage import LeftOut, Salvaged, salvage
+    from ._backup.unpack import Collection, Unpacked, unpack
+    from ._dumps.files import FileState
+    from ._dumps.gzip import UnpackError
+    from ._dumps.parts import Part, PartError, plan
+    from ._errors import ArgumentError, BsonfindError, CancelledError, CommandError, CursorStateError, DumpError, FileError
+    from ._errors import OtherProcessError, ProgramError, SessionEndedError, TimedOutError
+    from ._faults import Fault
 
     __version__: str
 

@@ -3,9 +3,9 @@
 from __future__ import annotations
 
 import re
-import struct
 from typing import Iterable, Iterator, NamedTuple
 
+from .._dumps.elements import length_at
 from .._dumps.framing import LONGEST, SHORTEST
 from .._dumps.gzip import UnpackError
 from .._dumps.runs import all_faults, checking
@@ -33,7 +33,6 @@ _MOST = 1 << 22
 _PIECE = 1 << 20
 # How many bytes are passed at once at most before the next piece is asked for.
 _MOST_AT_ONCE = 1 << 20
-_length_at = struct.Struct("<i").unpack_from
 
 
 class Window:
@@ -83,7 +82,7 @@ class Window:
         """Where the document ends that begins there, by its length; None if this is wrong."""
         if not self.has(at + SHORTEST):
             return None
-        (length,) = _length_at(self._held, at - self.start)
+        (length,) = length_at(self._held, at - self.start)
         return at + length if SHORTEST <= length <= LONGEST and self.has(at + length) else None
 
     def document_ends(self, at: int, size: int, most: int) -> list[int]:
@@ -95,7 +94,7 @@ class Window:
             here = at - start
             stop = min(last - 4, until - start, here + _MOST_AT_ONCE)
             while here < stop:
-                (length,) = _length_at(held, here)
+                (length,) = length_at(held, here)
                 if not SHORTEST <= length <= LONGEST or here + length > last:
                     break
                 here += length
@@ -204,7 +203,7 @@ def _places(pattern: re.Pattern[bytes], data: bytes, first: int, with_values: bo
     size = len(data)
     for found in pattern.finditer(data, first + _BEFORE):
         at = found.start() - _BEFORE
-        (length,) = _length_at(data, at)
+        (length,) = length_at(data, at)
         if SHORTEST <= length <= LONGEST and (at + length > size or not data[at + length - 1]):
             if with_values or not _is_field(data[max(at - _LONGEST_NAME, 0) : at]):
                 yield at

@@ -3,10 +3,9 @@
 from __future__ import annotations
 
 import random
-import struct
 from typing import Any, Callable, Iterator, NamedTuple, Sequence, Tuple
 
-from .._dumps.elements import SIZES, end_of
+from .._dumps.elements import ARRAY, DOCUMENT, SIZES, end_of, length_at
 from .cells import NAMES, TEXTS, Cell
 from .count import TooManyError
 from .texts import order_of
@@ -15,11 +14,9 @@ from .texts import order_of
 MOST_NAMES, MOST_PATHS = 1000, 100_000
 # What a document lacks is counted under this name of a type.
 MISSING = "missing"
-_DOCUMENT, _ARRAY = 0x03, 0x04
 # What is in place of the number of bytes of a value, in a slot.
 _OTHER, _TEXT, _NESTED, _LISTED = -1, -2, -3, -4
-_CODES = {_DOCUMENT: _NESTED, _ARRAY: _LISTED, **dict.fromkeys(TEXTS, _TEXT)}
-_length_at = struct.Struct("<i").unpack_from
+_CODES = {DOCUMENT: _NESTED, ARRAY: _LISTED, **dict.fromkeys(TEXTS, _TEXT)}
 
 
 class Field:
@@ -184,7 +181,7 @@ class Looked:
                 at = start + size
                 append(data[start:at])
             elif size == _TEXT:
-                at = start + 4 + _length_at(data, start)[0]
+                at = start + 4 + length_at(data, start)[0]
                 append(data[start + 4 : at])
             else:
                 at = self._value(append, inner, size, data, head[0], start)
@@ -253,6 +250,6 @@ def _rows(path: str, field: Field, total: int | None) -> Iterator[Row]:
     least = min((it for cell in cells if (it := cell.least) is not None), key=order_of, default=None)
     greatest = max((it for cell in cells if (it := cell.greatest) is not None), key=order_of, default=None)
     yield Row(path, types, least, greatest, firsts[0] if firsts else None)
-    documents = field.cells[_DOCUMENT].count if _DOCUMENT in field.cells else None
+    documents = field.cells[DOCUMENT].count if DOCUMENT in field.cells else None
     for rest, inner in field.below():
         yield from _rows(f"{path}{rest}", inner, None if inner in (field.elements, field.others) else documents)

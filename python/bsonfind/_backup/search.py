@@ -7,15 +7,14 @@ from __future__ import annotations
 
 import re
 import signal
-import struct
 import sys
 from contextlib import contextmanager
 from importlib import import_module
 from typing import Any, Callable, Iterator, NamedTuple
 
-from .._dumps.elements import SIZES, end_of, value_at
+from .._dumps.elements import ARRAY, DOCUMENT, PATTERN, SIZES, end_of, length_at, value_at
 
-_DOCUMENT, _ARRAY, _BINARY, _ID, _PATTERN, _POINTER, _CODE, _SCOPED = 0x03, 0x04, 0x05, 0x07, 0x0B, 0x0C, 0x0D, 0x0F
+_BINARY, _ID, _POINTER, _CODE, _SCOPED = 0x05, 0x07, 0x0C, 0x0D, 0x0F
 # The types whose values are texts alone.
 _TEXTS = (0x02, _CODE, 0x0E)
 # A UUID is of this subtype, or as old drivers wrote it of the other one, with its bytes in some order.
@@ -25,7 +24,6 @@ _UUID_SIZE = 16
 _MOST_NAMES, _BLOCK, _LONGEST_PATH = 10_000, 1 << 16, 1000
 # How many looks at the time end a pattern that is at one text.
 _LOOKS = 10
-_length_at = struct.Struct("<i").unpack_from
 
 
 class Wanted(NamedTuple):
@@ -126,17 +124,17 @@ class Search:
         at, places = 0, [data.find(it) for it in self._needles]
         while any(it >= 0 for it in places):
             nearest = min(it for it in places if it >= 0)
-            (length,) = _length_at(data, at)
+            (length,) = length_at(data, at)
             while at + length <= nearest:
                 at += length
-                (length,) = _length_at(data, at)
+                (length,) = length_at(data, at)
             yield at, at + length
             at += length
             places = [data.find(needle, at) if 0 <= place < at else place for place, needle in zip(places, self._needles)]
 
     def _look(self, data: bytes, at: int, path: bytes | None, is_array: bool) -> None:
         """Looks at the fields of a document or an array that begins there. The names in an array are numbers, and are no texts."""
-        names, end = self._names, at + _length_at(data, at)[0] - 1
+        names, end = self._names, at + length_at(data, at)[0] - 1
         at += 4
         while at < end:
             kind, zero = data[at], data.index(0, at + 1)
@@ -148,7 +146,7 @@ class Search:
                     known = names.get(name)
                     is_match = self._matches_name(name) if known is None else known
                 if kind in _TEXTS:
-                    stop = start + 4 + _length_at(data, start)[0]
+                    stop = start + 4 + length_at(data, start)[0]
                     is_match = is_match or self._matches(data[start + 4 : stop - 1])
                 elif (size := SIZES[kind]) >= 0 and kind != _ID:
                     stop = start + size
@@ -160,18 +158,18 @@ class Search:
                 self._slow.append((_path(path, name), b""))
             if is_match:
                 self._fields.append((_path(path, name), self._value(data, kind, start, stop)))
-            if kind in (_DOCUMENT, _ARRAY):
-                self._look(data, start, _below(path, name), kind == _ARRAY)
+            if kind in (DOCUMENT, ARRAY):
+                self._look(data, start, _below(path, name), kind == ARRAY)
             elif kind == _SCOPED:
-                self._look(data, start + 8 + _length_at(data, start + 4)[0], _below(path, name), False)
+                self._look(data, start + 8 + length_at(data, start + 4)[0], _below(path, name), False)
             at = stop
 
     def _value(self, data: bytes, kind: int, start: int, stop: int) -> bytes:
         """A value as a match has it."""
-        if kind in (_DOCUMENT, _ARRAY) or not self._wanted.with_values:
+        if kind in (DOCUMENT, ARRAY) or not self._wanted.with_values:
             return b""
         if kind == _SCOPED:
-            return bytes([_CODE]) + data[start + 4 : start + 8 + _length_at(data, start + 4)[0]]
+            return bytes([_CODE]) + data[start + 4 : start + 8 + length_at(data, start + 4)[0]]
         return bytes([kind]) + data[start:stop]
 
     def _matches_name(self, name: bytes) -> bool:
@@ -191,9 +189,9 @@ class Search:
             return len(value) == _UUID_SIZE and (subtype == _UUID and value == self._wanted.uuid or is_old)
         if kind == _POINTER:
             return self._matches(data[start + 4 : stop - 13]) or data[stop - 12 : stop] == self._wanted.id
-        if kind == _PATTERN:
+        if kind == PATTERN:
             return self._matches(data[start : data.index(0, start)])
-        return kind == _SCOPED and self._matches(data[start + 8 : start + 7 + _length_at(data, start + 4)[0]])
+        return kind == _SCOPED and self._matches(data[start + 8 : start + 7 + length_at(data, start + 4)[0]])
 
     def _matches(self, text: bytes) -> bool:
         """Whether a text has what is looked for."""
@@ -238,7 +236,7 @@ def literal_in(pattern: re.Pattern[str]) -> bytes:
 
 def _documents(data: bytes, at: int, end: int) -> Iterator[tuple[int, int]]:
     while at < end:
-        (length,) = _length_at(data, at)
+        (length,) = length_at(data, at)
         yield at, at + length
         at += length
 

@@ -2,18 +2,16 @@
 
 from __future__ import annotations
 
-import struct
 from itertools import chain
 from typing import Iterator, NamedTuple, Union
 
 from .._errors import DumpError
-from .elements import value_end
+from .elements import length_at, value_end
 from .framing import LONGEST, SHORTEST
 from .gzip import MAGIC, UnpackError, unpacked
 
 # What is in place of a length after the last document of a block.
 _TERMINATOR = -1
-_length_at = struct.Struct("<i").unpack_from
 Value = Union[str, int, bool]
 _INTEGERS = (0x10, 0x12)
 _STRING, _BOOLEAN = 0x02, 0x08
@@ -83,7 +81,7 @@ class Reader:
         """The next document; None in place of the terminator."""
         start = self.offset
         head = self.take(4)
-        (length,) = _length_at(head)
+        (length,) = length_at(head)
         if length == _TERMINATOR:
             return None
         if not SHORTEST <= length <= LONGEST:
@@ -107,7 +105,7 @@ class Reader:
             size, at, ended = len(view), start + left, int(left > 0)
             last, length = size - 4, SHORTEST
             while at <= last:
-                (length,) = _length_at(view, at)
+                (length,) = length_at(view, at)
                 if not SHORTEST <= length <= LONGEST:
                     break
                 at += length

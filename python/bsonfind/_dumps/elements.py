@@ -8,11 +8,12 @@ from typing import Sequence
 # How many bytes the values of a type have; or the first four count, beside all but this many.
 _FIXED = {0x01: 8, 0x06: 0, 0x07: 12, 0x08: 1, 0x09: 8, 0x0A: 0, 0x10: 4, 0x11: 8, 0x12: 8, 0x13: 16, 0x7F: 0, 0xFF: 0}
 _COUNTED = {0x02: 4, 0x03: 0, 0x04: 0, 0x05: 5, 0x0C: 16, 0x0D: 4, 0x0E: 4, 0x0F: 0}
-PATTERN, _DOCUMENT = 0x0B, 0x03
+DOCUMENT, ARRAY, PATTERN = 0x03, 0x04, 0x0B
 # How many bytes the values of each type have, by the type; of those that are counted -1 less how many they have beside the count.
 # A pattern is neither.
 SIZES = [_FIXED.get(kind, ~_COUNTED.get(kind, 0)) for kind in range(0x100)]
-_length_at = struct.Struct("<i").unpack_from
+# The length, or the count of bytes, that is at a place: one number in a tuple.
+length_at = struct.Struct("<i").unpack_from
 
 
 def value_end(data: bytes, kind: int, at: int) -> int | None:
@@ -35,7 +36,7 @@ def end_of(data: bytes, kind: int, at: int) -> int:
         return at + size
     if kind == PATTERN:
         return data.index(b"\0", data.index(b"\0", at) + 1) + 1
-    return at + int(_length_at(data, at)[0]) + ~size
+    return at + int(length_at(data, at)[0]) + ~size
 
 
 def value_at(document: bytes, names: Sequence[bytes]) -> bytes | None:
@@ -43,7 +44,7 @@ def value_at(document: bytes, names: Sequence[bytes]) -> bytes | None:
     at, end = 4, len(document) - 1
     found = b""
     for name in names:
-        if found and found[0] != _DOCUMENT:
+        if found and found[0] != DOCUMENT:
             return None
         while True:
             if at >= end:

@@ -3,17 +3,16 @@
 from __future__ import annotations
 
 import os
-import struct
 from typing import BinaryIO, Callable, Iterable, Iterator
 
 from .._errors import DumpError
 from .._faults import Fault
+from .elements import length_at
 
 SHORTEST, LONGEST = 5, 16_793_600
 # What a run of the program reads at most.
 LARGEST_INPUT = 4_294_967_295
 _PIECE = 1 << 18
-_length_at = struct.Struct("<i").unpack_from
 
 
 def read_at(file: BinaryIO, at: int, most: int, least: int = 1) -> bytes:
@@ -44,7 +43,7 @@ def ends_in(pieces: Iterable[bytes]) -> Iterator[int]:
                 start, number = at, number + 1
             if at + 4 > seen:
                 break
-            (length,) = _length_at(held, len(held) - (seen - at))
+            (length,) = length_at(held, len(held) - (seen - at))
             if not SHORTEST <= length <= LONGEST:
                 raise bad(number, at, "bad length")
             at += length
@@ -62,7 +61,7 @@ def documents_taken(pieces: Iterable[bytes], take: Callable[[bytes], None]) -> I
         data = rest + piece if rest else piece
         at, size = 0, len(data)
         while not is_wrong and at + 4 <= size:
-            (length,) = _length_at(data, at)
+            (length,) = length_at(data, at)
             is_wrong = not SHORTEST <= length <= LONGEST
             if is_wrong or at + length > size:
                 break
@@ -129,7 +128,7 @@ class _Inputs:
             return len(held), False
         at, last, number = self._next - self._offset, len(held) - 4, self._number
         while at <= last:
-            (length,) = _length_at(held, at)
+            (length,) = length_at(held, at)
             if not SHORTEST <= length <= LONGEST or at + length > most:
                 self._next, self._number = self._offset + at, number
                 if self._next > start:

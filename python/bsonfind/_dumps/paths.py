@@ -9,14 +9,12 @@ from math import isfinite
 from typing import Union
 
 from .._errors import ArgumentError
-from .elements import PATTERN, SIZES, end_of
+from .elements import ARRAY, DOCUMENT, PATTERN, SIZES, end_of, length_at
 
 # As many names as the program takes.
 _MOST_NAMES = 100
-_DOCUMENT, _ARRAY = 0x03, 0x04
 # The names that are a position in an array too.
 _POSITION = re.compile("0|[1-9][0-9]*", re.ASCII)
-_length_at = struct.Struct("<i").unpack_from
 # A number as it is: of a double a float, of a decimal128 a Decimal. Python compares them by their values, exactly.
 Number = Union[int, float, Decimal]
 # The types of numbers in a dump, and the bits of the digits of a decimal128.
@@ -54,7 +52,7 @@ class Path:
 
     def _from_document(self, data: bytes, at: int, level: int, found: list[bytes]) -> None:
         """Follows the names from one on, from the document whose first field begins at a byte."""
-        find, is_name_at, length_at, sizes, names = data.find, data.startswith, _length_at, SIZES, self._names
+        find, is_name_at, length_of, sizes, names = data.find, data.startswith, length_at, SIZES, self._names
         while True:
             name = names[level][0]
             while (kind := data[at]) and not is_name_at(name, at + 1):
@@ -65,14 +63,14 @@ class Path:
                 elif kind == PATTERN:
                     at = end_of(data, kind, at)
                 else:
-                    at += length_at(data, at)[0] + ~size
+                    at += length_of(data, at)[0] + ~size
             if not kind:
                 return
             level, start = level + 1, at + 1 + len(name)
             if level == len(names) and sizes[kind] >= 0:
                 found.append(data[at : at + 1] + data[start : start + sizes[kind]])
                 return
-            if level == len(names) or kind != _DOCUMENT:
+            if level == len(names) or kind != DOCUMENT:
                 self._from_value(data, kind, start, level, found)
                 return
             at = start + 4
@@ -80,11 +78,11 @@ class Path:
     def _from_value(self, data: bytes, kind: int, at: int, level: int, found: list[bytes]) -> None:
         """Follows the names from one on, from a value; after the last one it is found, or the elements of an array are."""
         if level < len(self._names):
-            if kind == _DOCUMENT:
+            if kind == DOCUMENT:
                 self._from_document(data, at + 4, level, found)
-            elif kind == _ARRAY:
+            elif kind == ARRAY:
                 self._from_array(data, at + 4, level, found)
-        elif kind == _ARRAY and data[at + 4]:
+        elif kind == ARRAY and data[at + 4]:
             at, find, sizes = at + 4, data.find, SIZES
             while kind := data[at]:
                 start = find(b"\0", at + 1) + 1
@@ -100,8 +98,8 @@ class Path:
         number, position, find = 0, self._names[level][1], data.find
         while kind := data[at]:
             start = find(b"\0", at + 1) + 1
-            if kind == _DOCUMENT:
-                at = start + _length_at(data, start)[0]
+            if kind == DOCUMENT:
+                at = start + length_at(data, start)[0]
                 self._from_document(data, start + 4, level, found)
             else:
                 at = end_of(data, kind, start)
