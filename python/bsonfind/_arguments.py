@@ -5,6 +5,7 @@ from __future__ import annotations
 import operator
 import os
 import threading
+from contextlib import suppress
 from typing import Union
 
 from ._errors import ArgumentError
@@ -47,9 +48,7 @@ def whole(name: str, number: int, least: int = 0, most: int = MOST) -> int:
 
 def seconds(timeout: float | None) -> float | None:
     """A number of seconds that a thread can wait, or None; others are an `ArgumentError`."""
-    try:
+    with suppress(TypeError):  # It is no number.
         if timeout is None or 0 <= timeout <= threading.TIMEOUT_MAX:
             return timeout
-    except TypeError:
-        pass  # It is no number.
     raise ArgumentError(f"timeout is a number of seconds, 0 to {threading.TIMEOUT_MAX:.0f}, or None, not {timeout!r}")

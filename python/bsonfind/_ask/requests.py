@@ -4,6 +4,7 @@ from __future__ import annotations
 
 import json
 import math
+from contextlib import suppress
 from functools import partial
 from typing import Any, Iterable, Mapping, NamedTuple, Sequence, Union
 
@@ -56,12 +57,10 @@ def text_of_pairs(pairs: Iterable[tuple[str, str]]) -> str:
 
 
 def _pairs_of(sort: Sort | None) -> list[tuple[str, int]]:
-    try:
+    with suppress(TypeError, ValueError):  # They are no pairs.
         if not isinstance(sort, (str, bytes)):
             pairs = sort.items() if isinstance(sort, Mapping) else () if sort is None else sort
             return [(path, way) for path, way in pairs]
-    except (TypeError, ValueError):
-        pass  # They are no pairs.
     raise ArgumentError(f'sort is [("age", -1), ..] or {{"age": -1, ..}}, not {sort!r}')
 
 

@@ -6,7 +6,7 @@ import heapq
 import os
 import tempfile
 from collections import Counter
-from contextlib import AbstractContextManager
+from contextlib import AbstractContextManager, suppress
 from hashlib import blake2b
 from typing import IO, Callable, Iterable, Iterator, NamedTuple, Sequence
 
@@ -229,7 +229,5 @@ class Sorter(AbstractContextManager["Sorter"]):
 
 def _close(runs: Iterable[IO[bytes]]) -> None:
     for run in runs:
-        try:
+        with suppress(OSError):  # What was not written is not read.
             run.close()
-        except OSError:
-            pass  # What was not written is not read.

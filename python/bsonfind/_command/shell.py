@@ -7,6 +7,7 @@ import os
 import signal
 import sys
 import threading
+from contextlib import suppress
 
 from .._errors import BsonfindError, CommandError
 from .arguments import FAILED, FAULTY, Refused, parser
@@ -79,11 +80,9 @@ def _flush() -> None:
 
 def _failed(text: str, status: int) -> int:
     """Reports on standard error why nothing more is done, if it takes that, and gives the status."""
-    try:
+    with suppress(OSError):  # There is no one to report it to.
         if sys.stderr is not None:
             print(f"{NAME}: {text}", file=sys.stderr, flush=True)
-    except OSError:
-        pass  # There is no one to report it to.
     for stream in (sys.stdout, sys.stderr):
         if isinstance(stream, io.TextIOWrapper):
             try:

@@ -3,6 +3,7 @@
 from __future__ import annotations
 
 import os
+from contextlib import suppress
 from typing import BinaryIO, NamedTuple
 
 from .._arguments import File, name_of
@@ -63,12 +64,10 @@ def member_of(path: File) -> Member | None:
 
 def is_whole_archive(path: File) -> bool:
     """Whether a regular file is an archive, by its first bytes. Of a pipe they would be lost."""
-    try:
+    with suppress(OSError):  # Whoever reads it says what is wrong with it.
         if os.path.isfile(path):
             with open(path, "rb", buffering=0) as file:
                 return is_archive(file.read(HEAD))
-    except OSError:
-        pass  # Whoever reads it says what is wrong with it.
     return False
 
 

@@ -5,7 +5,7 @@ from __future__ import annotations
 import os
 import select
 import stat
-from contextlib import AbstractContextManager, nullcontext
+from contextlib import AbstractContextManager, nullcontext, suppress
 from typing import Any, BinaryIO, ContextManager, Iterable, Iterator, NamedTuple, Protocol
 
 from .._arguments import File, name_of
@@ -179,10 +179,8 @@ class Unwatched(Watch):
 
 def _standard_input() -> BinaryIO:
     """Standard input; an error where it is closed or a directory."""
-    try:
+    with suppress(BlockingIOError):  # It can be read later.
         os.read(0, 0)
-    except BlockingIOError:
-        pass  # It can be read later.
     return open(0, "rb", buffering=0, closefd=False)
 
 

@@ -8,7 +8,7 @@ import os
 import re
 import subprocess
 import threading
-from contextlib import AbstractContextManager, ExitStack, contextmanager
+from contextlib import AbstractContextManager, ExitStack, contextmanager, suppress
 from typing import IO, Any, BinaryIO, Iterable, Iterator, NamedTuple, Sequence
 
 from .._errors import ArgumentError, BsonfindError, OtherProcessError, ProgramError, TimedOutError, why
@@ -258,10 +258,8 @@ def check_owner(owner: int) -> None:
 
 def close(pipe: IO[bytes]) -> None:
     """Closes a pipe, of which the other end may be gone."""
-    try:
+    with suppress(BrokenPipeError):  # What was not written is not read.
         pipe.close()
-    except BrokenPipeError:
-        pass  # What was not written is not read.
 
 
 def processors() -> int:
