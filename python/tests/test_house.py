@@ -36,7 +36,6 @@ PLACES = {
     "_dumps/runs.all_faults": "compares the count with that of what was given",
     "_backup/beginnings.Beginnings._undamaged_of": "takes the places after which there is no damage",
     "_backup/ids.find_ids": "passes lines on; takes a document that dump refuses for one with a fault",
-    "_backup/query._answer": "passes lines on",
     "_backup/reading._Batch.good": "notes faults, and leaves out their documents",
     "_backup/salvage.Salvaging._documents": "tells documents with a fault from others",
     "_command/dumping.Dumping.__init__": "asks no documents, so that refused fields are reported",

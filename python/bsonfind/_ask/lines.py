@@ -69,9 +69,10 @@ class Lines:
     token: str | None = field(default=None, init=False)
 
     def batches(self) -> Batches:
-        """The lines as they come, without their newlines, or documents. Closing this ends the program."""
+        """The lines as they come, without their newlines, or documents; at first none, once the program runs. Closing this ends it."""
         number = 0
         with self._running(*(["--bson"] if self.is_bson else [])) as (run, check):
+            yield []
             for some in (documents_of if self.is_bson else lines_of)(run.stdout):
                 number += len(some)
                 check()

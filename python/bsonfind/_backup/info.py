@@ -7,6 +7,7 @@ import os
 from math import isfinite
 from typing import Any, Callable, Iterable, Iterator, NamedTuple, Sequence
 
+from .._ask.values import plain_value
 from .._dumps.archive import Listed, kind_of, parsed
 from .._dumps.archive_frames import Namespace
 from .._dumps.files import INSIDE, member_of, name_in
@@ -20,7 +21,7 @@ COLUMNS = ("database", "collection", "kind", "documents", "bytes", "average", "i
 _BUCKETS = "system.buckets."
 # The endings of the names of the two collections of GridFS.
 _FILES, _CHUNKS = ".files", ".chunks"
-_NUMBERS = ("$numberInt", "$numberLong", "$numberDouble")
+_NUMBERS = {"$numberInt", "$numberLong", "$numberDouble"}
 # A double below this one that is a whole number is written without a fraction.
 _EXACT = 1 << 53
 
@@ -150,14 +151,8 @@ def _plain(value: Any) -> Any:
 
 def _number(value: dict[str, Any]) -> Any:
     """The number of an object of Extended JSON, or else the object; NaN and infinity have none."""
-    name, text = next(iter(value.items())) if len(value) == 1 else ("", None)
-    if name not in _NUMBERS or not isinstance(text, str):
-        return value
-    try:
-        number = float(text) if name == "$numberDouble" else int(text)
-    except ValueError:
-        return value
-    if isinstance(number, int):
+    number = plain_value(value) if value.keys() <= _NUMBERS else value
+    if not isinstance(number, float):
         return number
     return value if not isfinite(number) else int(number) if number.is_integer() and abs(number) < _EXACT else number
 

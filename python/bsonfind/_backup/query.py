@@ -5,12 +5,11 @@ from __future__ import annotations
 from contextlib import contextmanager
 from typing import Iterator, NamedTuple, Sequence
 
-from .._ask.lines import Lines, counted, try_request
+from .._ask.lines import Lines, try_request
 from .._ask.requests import Request
-from .._dumps.runs import lines_of
 from .._dumps.sources import Source
 from .._errors import BsonfindError, DumpError
-from .._run.processes import Dump as Input, Group, Run, wide_program
+from .._run.processes import Dump as Input, Group
 from .backups import Dump
 from .workers import begun_ahead
 
@@ -38,21 +37,18 @@ def query_dumps(dumps: Sequence[Dump], request: Request, jobs: int, program: str
 
 def _answer(dump: Dump, request: Request, program: str, group: Group) -> Iterator[Found]:
     """The documents of a dump, after one thing that is empty, which is given when its first run is started."""
-    name, wide = dump.name, wide_program(program, group)
+    name = dump.name
     try:
         if dump.error:
             raise DumpError(dump.error)
         with Source(name) as source:
             for part in source.inputs(MOST_HELD):
-                with Run.over(part.dump, wide, "find", request.words(), group=group) as run:
-                    yield Found(name, [])
-                    for lines in lines_of(run.stdout):
+                try:
+                    for lines in Lines(part.dump, request, program, group=group).batches():
                         source.check()
                         yield Found(name, lines)
-                    try:
-                        counted(run)
-                    except DumpError as error:
-                        raise error.moved(part.first, part.offset) from None
+                except DumpError as error:
+                    raise error.moved(part.first, part.offset) from None
         yield Found(name, [])
     except (BsonfindError, OSError) as error:
         yield Found(name, [], error)

@@ -46,7 +46,9 @@ def become_program(words: list[str]) -> None:
     if not rest or rest[0] not in (*_OF_DUMPS, PACK):
         return
     command, (files, options) = rest[0], _split(rest[1:])
-    if len(files) != 1 or files[0] != "-" and files[0].startswith("-") or not _are_of(command, options):
+    given = {name: value for name, _, value in ("=".join(it).partition("=") for it in options)}
+    is_refused = len(given) != len(options) or not {*given} <= {*_OPTIONS[command]} or refusal(given) is not None
+    if len(files) != 1 or files[0] != "-" and files[0].startswith("-") or is_refused:
         return
     file = files[0]
     wide = located_wide(program)
@@ -91,12 +93,6 @@ def _split(words: list[str]) -> tuple[list[str], list[list[str]]]:
         else:
             files.extend(taken)
     return files, options
-
-
-def _are_of(command: str, options: list[list[str]]) -> bool:
-    """Whether a command has these options, each once, and they go together."""
-    given = {name: value for name, _, value in ("=".join(it).partition("=") for it in options)}
-    return len(given) == len(options) and {*given} <= {*_OPTIONS[command]} and refusal(given) is None
 
 
 def refusal(given: dict[str, str]) -> str | None:

@@ -62,10 +62,9 @@ def _prepare_streams() -> None:
         except OSError:
             # A link by itself: what reads it has an error, by its number and by its names, and not the end of an empty dump.
             os.open("/dev/stdin", os.O_PATH | os.O_NOFOLLOW) if number == 0 else os.open(os.devnull, os.O_RDWR)
-    if isinstance(sys.stdout, io.TextIOWrapper):
-        sys.stdout.reconfigure(encoding="utf-8", errors="surrogateescape")
-    if isinstance(sys.stderr, io.TextIOWrapper):
-        sys.stderr.reconfigure(encoding="utf-8", errors="surrogateescape")
+    for stream in (sys.stdout, sys.stderr):
+        if isinstance(stream, io.TextIOWrapper):
+            stream.reconfigure(encoding="utf-8", errors="surrogateescape")
 
 
 def _flush() -> None:
