@@ -106,13 +106,9 @@ def _refuse_twice(names: Sequence[str]) -> None:
 
 
 def _run_find(words: argparse.Namespace) -> int:
-    from .._ask.requests import Request
     from .finding import Finding
 
-    form = tuple(options_of(words))
-    request = Request(words.query, words.sort, words.skip, words.limit)
-    finding = Finding(words.file, request, words.program, words.batch, words.index, words.after, form)
-    return GOOD if finding.print(Console()) else FAULTY
+    return GOOD if Finding(words, options_of(words)).print(Console()) else FAULTY
 
 
 def _run_serve(words: argparse.Namespace) -> int:

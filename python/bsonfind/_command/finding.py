@@ -2,10 +2,11 @@
 
 from __future__ import annotations
 
+import argparse
 import os
 import subprocess
 import sys
-from dataclasses import dataclass
+from typing import Sequence
 
 from .._ask.lines import counted, finding
 from .._ask.requests import Request
@@ -18,17 +19,13 @@ from .._run.processes import Dump, Run
 from .console import Console
 
 
-@dataclass
 class Finding:
     """What is requested of a dump on a command line, by a program. The form is its options that say what is printed, none for lines."""
 
-    name: str
-    request: Request
-    program: str
-    batch: int | None = None
-    index: str | None = None
-    after: str | None = None
-    form: tuple[str, ...] = ()
+    def __init__(self, words: argparse.Namespace, form: Sequence[str] = ()) -> None:
+        self.name, self.program, self.form = words.file, words.program, form
+        self.request = Request(words.query, words.sort, words.skip, words.limit)
+        self.batch, self.index, self.after = words.batch, words.index, words.after
 
     def print(self, console: Console) -> bool:
         """Prints what is found; returns whether the dump has no fault."""

@@ -80,12 +80,10 @@ def kept(pieces: Iterable[bytes]) -> Iterator[tuple[BinaryIO, Iterator[bytes]]]:
 def _written(pieces: Iterable[bytes], file: BinaryIO) -> Iterator[bytes]:
     for piece in pieces:
         rest = memoryview(piece)
-        while rest:
-            try:
+        with _writing():
+            while rest:
                 # A disk that is full takes a part of it.
                 rest = rest[file.write(rest) :]
-            except OSError as error:
-                raise _no_space() from error
         yield piece
 
 
@@ -93,13 +91,16 @@ def temporary_file() -> BinaryIO:
     """A file without a name. Where the system makes none it has a name at first, so that signals wait until it is gone."""
     waiting = signal.pthread_sigmask(signal.SIG_BLOCK, (signal.SIGINT, signal.SIGTERM, signal.SIGHUP))
     try:
-        return tempfile.TemporaryFile(buffering=0)  # type: ignore[return-value]
-    except OSError as error:
-        raise _no_space() from error
+        with _writing():
+            return tempfile.TemporaryFile(buffering=0)  # type: ignore[return-value]
     finally:
         signal.pthread_sigmask(signal.SIG_SETMASK, waiting)
 
 
-def _no_space() -> ProgramError:
-    """The error of a file without a name that cannot be written."""
-    return ProgramError(f"cannot write a copy of the dump in {tempfile.gettempdir()}: TMPDIR names another directory")
+@contextmanager
+def _writing() -> Iterator[None]:
+    """Has a file without a name that cannot be written say where it would be."""
+    try:
+        yield
+    except OSError as error:
+        raise ProgramError(f"cannot write a copy of the dump in {tempfile.gettempdir()}: TMPDIR names another directory") from error
