@@ -3,6 +3,8 @@
 from __future__ import annotations
 
 import os
+from itertools import groupby
+from operator import itemgetter
 from typing import BinaryIO, Callable, Iterable, Iterator
 
 from .._errors import DumpError
@@ -74,72 +76,48 @@ def documents_taken(pieces: Iterable[bytes], take: Callable[[bytes], None]) -> I
 def inputs(pieces: Iterable[bytes], most: int | None = None) -> Iterator[tuple[int, int, Iterator[bytes]]]:
     """Splits bytes between documents, as they pass, into inputs of at most this many bytes, or of as many as a run can read.
 
-    Each input comes with the offset and the number of its first document, and is read to its end before the next one begins. A
-    longer document is an input by itself. Only the lengths are looked at: with a wrong one the last input begins.
+    Each input comes with the offset and the number of its first document, and none follows one that was not read to its end. A longer
+    document is an input by itself. Only the lengths are looked at: with a wrong one the last input begins.
     """
-    return _Inputs(pieces, LARGEST_INPUT if most is None else most).all()
+    groups, is_read = groupby(_placed(pieces, LARGEST_INPUT if most is None else most), itemgetter(0, 1)), True
+
+    def read(group: Iterator[tuple[int, int, bytes]]) -> Iterator[bytes]:
+        nonlocal is_read
+        for _, _, piece in group:
+            yield piece
+        is_read = True
+
+    while is_read and (found := next(groups, None)):
+        is_read, (offset, first) = False, found[0]
+        yield offset, first, read(found[1])
 
 
-class _Inputs:
-    """A stream of bytes that is split between documents."""
-
-    def __init__(self, pieces: Iterable[bytes], most: int) -> None:
-        self._pieces, self._most = iter(pieces), most
-        # What was read and not passed on, the offset of its first byte, and that of the next document.
-        self._held, self._offset, self._next = b"", 0, 0
-        self._number = 0
-        self._is_wrong = self._is_passed_on = False
-
-    def all(self) -> Iterator[tuple[int, int, Iterator[bytes]]]:
-        """The inputs; none follows one that was not read to its end."""
-        self._is_passed_on = True
-        while self._is_passed_on and (self._held or self._read()):
-            self._is_passed_on = False
-            yield self._offset, self._number, self._input()
-
-    def _input(self) -> Iterator[bytes]:
-        start = self._offset
-        while self._held or self._read():
-            size, is_end = self._size(start)
-            if size:
-                piece, self._held = self._held[:size], self._held[size:]
-                self._offset += size
-                yield piece
-            if is_end:
-                break
-            if self._held and not self._read():
-                self._is_wrong = True  # The bytes end within a length.
-                if self._offset > start:
-                    break
-        self._is_passed_on = True
-
-    def _read(self) -> bool:
-        """Reads the next piece; False if there is none."""
-        for piece in self._pieces:
-            if piece:
-                self._held += piece
-                return True
-        return False
-
-    def _size(self, start: int) -> tuple[int, bool]:
-        """How many of the bytes that are kept belong to the input that began there, and whether it ends with them."""
-        held, most = self._held, start + self._most - self._offset
-        if self._is_wrong:
-            return len(held), False
-        at, last, number = self._next - self._offset, len(held) - 4, self._number
-        while at <= last:
+def _placed(pieces: Iterable[bytes], most: int) -> Iterator[tuple[int, int, bytes]]:
+    """The bytes, each with the offset and the number of the first document of its input."""
+    # The bytes that are kept, where they begin and how far from there the next document is; and where the input begins.
+    held, offset, at, start = b"", 0, 0, 0
+    number, first, is_wrong = 0, 0, False
+    for piece in pieces:
+        held += piece
+        last, end = len(held) - 4, start + most - offset
+        while at <= last and not is_wrong:
             (length,) = length_at(held, at)
-            if not SHORTEST <= length <= LONGEST or at + length > most:
-                self._next, self._number = self._offset + at, number
-                if self._next > start:
-                    return at, True
-                if not SHORTEST <= length <= LONGEST:
-                    self._is_wrong = True
-                    return len(held), False
-            at += length
-            number += 1
-        self._next, self._number = self._offset + at, number
-        return min(at, len(held)), False
+            is_wrong = not SHORTEST <= length <= LONGEST
+            if (is_wrong or at + length > end) and offset + at > start:
+                if at:
+                    yield start, first, held[:at]
+                held, offset = held[at:], offset + at
+                start, first = offset, number
+                last, at, end = last - at, 0, most
+            if not is_wrong:
+                at += length
+                number += 1
+        size = len(held) if is_wrong else min(at, len(held))
+        if size:
+            yield start, first, held[:size]
+        held, offset, at = held[size:], offset + size, at - size
+    if held:  # They end within a length.
+        yield (offset, number, held) if offset > start else (start, first, held)
 
 
 def bad(number: int, at: int, kind: str) -> DumpError:
