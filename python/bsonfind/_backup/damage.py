@@ -56,7 +56,6 @@ def details_of(source: Source, faults: Sequence[Fault], program: str, group: Gro
 
 
 def _detail(window: Window, fault: Fault, start: int, program: str, group: Group) -> Detail:
-    """The details of the document that begins there."""
     end = None if is_of_a_length(fault) else window.document_end(start)
     window.has(start + _HEAD)
     value = window.byte(fault.offset) if fault.kind in _OF_A_BYTE and fault.offset < window.end else None

@@ -65,7 +65,6 @@ class _Parser(argparse.ArgumentParser):
         return known, others
 
     def print_help(self, file: object = None) -> None:
-        """Prints the help on standard output."""
         print_text(self.format_help(), end="")
 
 

@@ -28,7 +28,6 @@ _INSTEAD = {
 
 
 def run(words: argparse.Namespace) -> int:
-    """Runs the command that was named, and gives its status."""
     name = getattr(words, "file", getattr(words, "archive", None))
     if name is not None and getattr(words, "out", None) is None:
         _refuse_directory(words.command, name)
@@ -178,7 +177,6 @@ def _names_in(words: argparse.Namespace) -> list[str]:
 
 
 def table(rows: Sequence[tuple[str, int]]) -> list[str]:
-    """The lines of a table of names and counts."""
     wide = max(len(name) for name, _ in rows)
     return [f"{name:{wide}} {count:12}" for name, count in rows]
 

@@ -39,7 +39,6 @@ def need_output() -> None:
 
 
 def print_text(text: str, end: str = "\n") -> None:
-    """Prints a text on standard output."""
     need_output()
     with _writing():
         print(text, end=end, flush=True)

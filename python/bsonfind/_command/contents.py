@@ -89,7 +89,6 @@ def _wanted(words: argparse.Namespace, text: str) -> Wanted:
 
 
 def _lines(hits: Hits) -> list[bytes]:
-    """A line of JSON for each field."""
     name = json.dumps(hits.name)
     lines = (f'{{"file":{name},"id":{it.id or "null"},"path":{json.dumps(it.path)},"value":{it.value or "null"}}}\n' for it in hits.rows)
     return [line.encode() for line in lines]

@@ -88,7 +88,6 @@ class Counting:
                 table.print(some)
 
     def _counts(self, rows: Sequence[Row]) -> Iterator[Cells]:
-        """The cells of rows of counts."""
         values = texts([row.value for row in rows if row.value], self._program)
         for row in rows:
             value = () if row.value is None else (next(values) if row.value else "" if self._is_json else _MISSING,)
@@ -103,7 +102,6 @@ class Counting:
         return f'{{"${"numberDecimal" if isinstance(number, Decimal) else "numberDouble"}":"{text}"}}'
 
     def _fields(self, rows: Sequence[PathRow]) -> Iterator[Cells]:
-        """The cells of rows of fields."""
         values = texts([it for row in rows for it in row[2:] if it is not None], self._program)
         for row in rows:
             path = json.dumps(row.path, ensure_ascii=False) if self._is_json else row.path

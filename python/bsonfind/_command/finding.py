@@ -45,7 +45,6 @@ class Finding:
         return True
 
     def _print_all(self, source: Source) -> None:
-        """Has one run print all of it."""
         page = [f"--{name}={value}" for name, value in (("batch", self.batch), ("after", self.after)) if value is not None]
         sys.stdout.flush()
         with self._run(source.dump(), self.request, *page, *self.form, stdout=sys.stdout.fileno()) as run:

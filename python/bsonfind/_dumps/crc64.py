@@ -40,7 +40,6 @@ class Crc64:
         self._held, self._kind, self._size = bytearray(), _FIRST, 0
 
     def add(self, data: memoryview) -> None:
-        """Takes the next bytes."""
         at, size = 0, len(data)
         while at < size:
             piece = data[at : at + _CHUNK - len(self._held)]

@@ -72,7 +72,6 @@ def is_whole_archive(path: File) -> bool:
 
 
 def name_in(archive: str, namespace: Namespace) -> str:
-    """The name of a collection of an archive."""
     return f"{archive}{INSIDE}{namespace}"
 
 

@@ -33,7 +33,6 @@ class Original:
 
     @classmethod
     def of_pieces(cls, pieces: Iterable[bytes]) -> Original:
-        """Those of some bytes."""
         with kept(pieces) as (file, passing):
             for _ in passing:
                 pass

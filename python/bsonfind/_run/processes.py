@@ -131,7 +131,6 @@ class Run(AbstractContextManager["Run"]):
 
     @classmethod
     def over(cls, dump: Dump, program: str, command: str, options: Sequence[str] = (), **how: Any) -> Run:
-        """A run of a command that reads a dump."""
         return cls([program, command, "-", *options], dump.pieces, dump.file or subprocess.DEVNULL, **how)
 
     @classmethod
