@@ -1,2 +1,9 @@
 mod CsvLemmas
+mod FreeLemmas
+mod JoinedLemmas
+mod PlainFindLemmas
+mod PlainLineLemmas
+mod PlainServeLemmas
 mod RunLemmas
+mod StepLemmas
+mod TextLemmas

@@ -32,7 +32,7 @@
 //! - `command`: `parse`, the command that arguments mean, and `run`, a whole run of one over devices.
 //! - `dump` and `find`: documents of all types, in a layout.
 //! - `pack`: the documents of all types in lines.
-//! - `laws`: what is printed as CSV is read back.
+//! - `laws`: what is printed as CSV is read back, and where the commands print what those of `bsonfind` print.
 //! - `output`: the usage and the version.
 #![tactic(auto)]
 
@@ -44,5 +44,7 @@ mod output;
 mod pack;
 
 pub use command::{file_of, is_serve, parse, query_file_of, reads_first, run};
-pub use laws::csv_is_read_back;
+pub use laws::{
+    csv_is_read_back, documents_are_lines, finds_as_bsonfind, reads_as_bsonfind, serves_as_bsonfind,
+};
 pub use output::{PROGRAM, report, version};
