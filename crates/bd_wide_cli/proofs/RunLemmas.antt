@@ -1,5 +1,5 @@
 -- Runs in a layout that options name.
-use Rattle.std.proofs.Common.{◌≡◌, ℕ, List, [], Option, Some, None, codes, refl, subst, sym, inl, inr}
+use Rattle.std.proofs.Common.{◌≡◌, [], Option, Some, None, codes, refl, subst, inl, inr}
 use Rattle.bd_io_device.specs.Devices.{Over, Reader, Writer, between}
 use Rattle.bd_io_device.proofs.DevicesLemmas.{takes_none}
 use Rattle.bd_cli_scan.specs.{Output.error_line, Output.no_memory, Output.refusal_output, Run.Prints, Run.ReportsMessage, Run.Run}
