@@ -1,11 +1,11 @@
 -- What `find` of both programs prints for the same words.
-use Rattle.std.proofs.Common.{◌≡◌, ◌⊎◌, ℕ, ℤ, List, [], drop, codes, false, Option, Some, None, Result, Ok, Err, refl, sym, ap, ◌∙◌, subst, inl, inr, arith}
+use Rattle.std.proofs.Common.{◌≡◌, ℕ, ℤ, List, [], drop, codes, false, Option, Some, None, Result, Ok, Err, refl, sym, ap, ◌∙◌, subst, inl, inr, arith}
 use Rattle.std.specs.{Option.ok_or}
 use Rattle.bd_value.specs.Tree.{Doc, fields_of, int64}
 use Rattle.bd_bson_view.specs.Spelling.{valued}
 use Rattle.bd_bson_view.specs.declared.raw_parts.ElementType.{ElementType}
 use Rattle.bd_io_device.specs.Devices.{Over, Reader}
-use Rattle.bd_bson_check.specs.{Dump.IsDump, Dump.IsDumpScan, Fault.Fault, Fault.fault_view, FirstFault.ReportsNoNumber}
+use Rattle.bd_bson_check.specs.{Dump.IsDumpScan, Fault.Fault, Fault.fault_view, FirstFault.ReportsNoNumber}
 use Rattle.bd_bson_check.specs.declared.fault.Fault.{Fault as FaultInMemory}
 use Rattle.bd_extjson.specs.Read.{ReadsAs, reading}
 use Rattle.bd_extjson.proofs.ReadBackLemmas.{document_back}
@@ -27,13 +27,13 @@ use Rattle.bd_wide_find.specs.Find as cases
 use Rattle.bd_wide_find.specs.Find.{FindCase, HasValues, IsAccepted, IsRefusedOver, case_run, printing_of}
 use Rattle.bd_wide_find.specs.Options.{advised_text, requested_of, sort_in}
 use Rattle.bd_wide_number.specs.declared.number.Number.{Number}
-use Rattle.bd_wide_query.specs.{Split.Split, Types.longs_of}
+use Rattle.bd_wide_query.specs.{Types.longs_of}
 use Rattle.bd_wide_rank.specs.Worth.{worth}
 use Rattle.bd_wide_substitute.specs.{Both.HasNoValues, Both.IsRead, Both.IsUnread, Reported.IsKindBy, Reported.IsReported, Reported.begins_number, Substitutes.Wrapper, Substitutes.wrapper_at}
 use Rattle.bd_wide_substitute.specs.Substitutes.{ArePieces, Piece, all_values}
 use Rattle.bd_wide_substitute.proofs.OnceLemmas.{alike}
 use Rattle.bd_wide_cli.specs.Command.{query_text}
-use Rattle.bd_wide_cli.specs.Plain.{FailsElsewhere, GivesNoNumber, NeedsTwoClasses}
+use Rattle.bd_wide_cli.specs.Plain.{FailsElsewhere, GivesNoNumber}
 use Rattle.bd_wide_cli.proofs.JoinedLemmas.{fault_is, none_sound}
 use Rattle.bd_wide_cli.proofs.PlainLineLemmas.{found_alike, one_a_line}
 use Rattle.bd_wide_cli.proofs.TextLemmas.{taken_has_none}
@@ -183,9 +183,6 @@ module _ (stays : Stays) (stays_unread : StaysUnread) where
 
   -- ---- the runs
 
-  no_split : (split : Split) → None ≡ Some split → ⊥
-  no_split split e = cc
-
   module _ (options : FindOptions) (file : Over Reader) (plain : HasNone (query_text None options)) where
     abbrev Printed : FindCase (query_text None options) options file → Transcript → Type 0
     Printed c output = (case_run (printing_of one_a_line Form.Lines) c).IsOutput output
@@ -195,8 +192,7 @@ module _ (stays : Stays) (stays_unread : StaysUnread) where
     query_alike a = read_plain (query_text None options) plain a.wholes a.texts a.numbers a.read
 
     -- `bsonfind` takes the options, and refuses the file for no double and no decimal128
-    module _ (w : Request × Option Token) (requests : requested_by options ≡ Ok w) (scans : GivesNoNumber file)
-        (enough : (bytes : List ℕ) → ReadsInput file (Ok bytes) → ((ds : List Doc) × IsDump ds bytes) ⊎ NeedsTwoClasses (query_text None options)) where
+    module _ (w : Request × Option Token) (requests : requested_by options ≡ Ok w) (scans : GivesNoNumber file) where
       -- bytes without values are not searched by value
       not_by_value : (v : ElementType → List ℕ → ℤ) (a : IsAccepted (query_text None options) options) (bytes : List ℕ) (ws : List Doc) → ReadsInput file (Ok bytes) → HasValues a.numbers bytes
           → AreJoinedBy (valued v) ws bytes → ⊥
@@ -208,11 +204,8 @@ module _ (stays : Stays) (stays_unread : StaysUnread) where
 
       not_refused : (a : IsAccepted (query_text None options) options) (bytes message : List ℕ) → ReadsInput file (Ok bytes) → HasValues a.numbers bytes
           → IsRefusedOver options a.numbers a.wholes a.texts bytes message → ⊥
-      not_refused a bytes message reads values (inl (split, more, is)) = go (enough bytes reads)
-        where
-          go : ((ds : List Doc) × IsDump ds bytes) ⊎ NeedsTwoClasses (query_text None options) → ⊥
-          go (inl (ds, dump)) = values (query_alike a).0 ds dump
-          go (inr two) = no_split split (sym (two a.texts (query_alike a).2) ∙ more)
+      not_refused a bytes message reads values (inl (documents, split, more, is)) =
+          let d = documents worth in not_by_value worth a bytes d.0 reads values d.1
       not_refused a bytes message reads values (inr (two, (ds, table, has, is))) =
           not_by_value worth a bytes (coded_documents (number_as int64) ds) reads values (joined_widened (longs_of (fields_of a.texts)) worth ds bytes has.are)
 

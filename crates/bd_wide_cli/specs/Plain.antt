@@ -1,18 +1,17 @@
 -- What `bsonwide find` prints with no options but those of `bsonfind`, and which queries and files both programs treat alike.
 use Rattle.std.specs.Prelude.{◌≡◌, ◌⊎◌, ℕ, List, [], ◌++◌, false, drop, Option, None, Ok}
 use Rattle.std.specs.{Io.KnownBytes.Consumes, List.All}
-use Rattle.bd_value.specs.Tree.{Doc, fields_of}
+use Rattle.bd_value.specs.Tree.{Doc}
 use Rattle.bd_io_device.specs.Devices.{Over, Reader}
 use Rattle.bd_io_lines.specs.Lines.{AreWhole, commands_of}
-use Rattle.bd_bson_check.specs.{Dump.IsDump, Dump.IsDumpScan, Fault.Fault, FirstFault.ReportsNoNumber}
-use Rattle.bd_extjson.specs.Read.{ReadsAs, reading}
+use Rattle.bd_bson_check.specs.{Dump.IsDumpScan, Fault.Fault, FirstFault.ReportsNoNumber}
+use Rattle.bd_extjson.specs.Read.{reading}
 use Rattle.bd_extjson_fault.specs.TextFault.{text_fault}
 use Rattle.bd_extjson_fault.specs.declared.json_fault.JsonFaultKind.TheVariants.{NotInProfile}
 use Rattle.bd_cli_args.specs.{FindOptions.FindOptions, LayoutOptions.LayoutOptions, declared.wide_line.Form.Form}
 use Rattle.bd_cli_scan.specs.{Input.ReadsInput, Run.Run}
 use Rattle.bd_wide_find.specs.Find.{printing_of, wide_find_run}
 use Rattle.bd_wide_layout.specs.Options.{layout_named}
-use Rattle.bd_wide_query.specs.Split.{third_class}
 use Rattle.bd_wide_service.specs.Places.{absent, placed_line}
 use Rattle.bd_wide_substitute.specs.{Both.HasNoValues, Reported.begins_number, Substitutes.wrapper_at}
 use Rattle.bd_wide_cli.specs.{Command.query_text, Dump.layout_run}
@@ -43,14 +42,6 @@ FailsElsewhere text = (text_fault text).kind ≡ NotInProfile → let here = dro
 -- If `bsonfind` refuses the text, it has no double, no decimal128, and no date or UUID that is a text, and none of these is at its fault.
 abbrev pub IsReadAlike : List ℕ → Type 0
 IsReadAlike text = reading text ≡ None → HasNoValues text × FailsElsewhere text
-
--- No `$type` of the query in a text needs a third class of numbers.
-abbrev pub NeedsTwoClasses : List ℕ → Type 0
-NeedsTwoClasses text = (query : Doc) → ReadsAs text query → third_class (fields_of query) ≡ None
-
--- All bytes that a file gives are a dump of the nineteen types.
-abbrev pub GivesDump : Over Reader → Type 0
-GivesDump file = (bytes : List ℕ) → ReadsInput file (Ok bytes) → (ds : List Doc) × IsDump ds bytes
 
 -- In all bytes that a file gives, the first fault by the nineteen types, if there is one, is neither a double nor a decimal128.
 abbrev pub GivesNoNumber : Over Reader → Type 0

@@ -24,7 +24,7 @@ ghost use Rattle.bd_wide_service.specs.Serve.{wide_serve_run};
 ghost use Rattle.bd_wide_substitute.specs.Both.{IsRead, IsUnread};
 ghost use Rattle.bd_wide_cli.specs.Command.{query_text};
 ghost use Rattle.bd_wide_cli.specs.Dump.{AreRows, laid_out};
-ghost use Rattle.bd_wide_cli.specs.Plain.{AskForDocuments, GivesDump, GivesNoNumber, IsReadAlike, NeedsTwoClasses, no_words, plain_find_run};
+ghost use Rattle.bd_wide_cli.specs.Plain.{AskForDocuments, GivesNoNumber, IsReadAlike, no_words, plain_find_run};
 
 use bd_io_device::Input;
 use bd_wide_substitute::texts_without_values_stay;
@@ -65,13 +65,7 @@ pub fn reads_as_bsonfind()
 /// refused with the same message, after which may be what to write instead, and the file is not read.
 pub fn finds_as_bsonfind()
     ensures taken { (options : FindOptions) (w : Request × Option Token) (file : Over Reader) →
-        requested_by options ≡ Ok w → GivesDump file →
-        (output : Transcript) → (plain_find_run options file).IsOutput output →
-        (find_run options file).IsOutput output }
-    // A query that needs three classes of types may be refused in place of the fault.
-    ensures faulty { (options : FindOptions) (w : Request × Option Token) (file : Over Reader) →
         requested_by options ≡ Ok w → GivesNoNumber file →
-        NeedsTwoClasses (query_text None options) →
         (output : Transcript) → (plain_find_run options file).IsOutput output →
         (find_run options file).IsOutput output }
     ensures refused { (options : FindOptions) (message : List ℕ) (file : Over Reader) →

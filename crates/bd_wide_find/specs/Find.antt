@@ -19,7 +19,7 @@ use Rattle.bd_wide_layout.specs.Layout.{LayoutView, closing, ending, opening, se
 use Rattle.bd_wide_number.specs.declared.number.Number.{Number}
 use Rattle.bd_wide_rank.specs.{Rank.AreDistinct, Rank.HaveSame, Rank.code, Worth.worth}
 use Rattle.bd_wide_copy.specs.declared.longs.Longs.{Longs}
-use Rattle.bd_wide_copy.specs.{Classes.classed, Dump.AreJoinedBy, Dump.IsCopyOfDump, Dump.IsDocumentAt, Dump.IsFirstFault, Numbers.document_numbers}
+use Rattle.bd_wide_copy.specs.{Classes.classed, Dump.AreDocuments, Dump.AreJoinedBy, Dump.IsCopyOfDump, Dump.IsDocumentAt, Dump.IsFirstFault, Numbers.document_numbers}
 use Rattle.bd_wide_substitute.specs.Both.{IsRead, IsUnread}
 use Rattle.bd_wide_query.specs.{Coded.coded_query, Coded.valued_query, Nan.beside_nan, Split.Split, Split.third_class, Types.longs_of}
 use Rattle.bd_wide_find.specs.{Options.advised_text, Options.requested_of, Printer.IsLaidOutText}
@@ -90,11 +90,11 @@ pub record IsRequestOver (options : FindOptions) (numbers : List Number) (wholes
 abbrev pub request_by_value : List ℤ → Request → Request → Request
 request_by_value table request coded = record request { filter = beside_nan table request.filter; text = coded.text }
 
--- The options are refused with this message over a dump of all types: a `$type` of the query needs a third class of numbers, and the
--- message has its place; or none does, and there is no such request.
+-- The options are refused with this message over a dump of all types, all of whose bytes are documents: a `$type` of the query needs a
+-- third class of numbers, and the message has its place; or none does, and there is no such request.
 abbrev pub IsRefusedOver : FindOptions → List Number → Doc → Doc → List ℕ → List ℕ → Type 0
 IsRefusedOver options numbers wholes texts bytes message =
-    ((split : Split) × (third_class (fields_of texts) ≡ Some split) × (message ≡ types_message split.path))
+    (AreDocuments bytes × (split : Split) × (third_class (fields_of texts) ≡ Some split) × (message ≡ types_message split.path))
     ⊎ ((third_class (fields_of texts) ≡ None) × ((ds : List Doc) × (table : List ℤ) × HasTable (longs_of (fields_of texts)) bytes ds table
     × IsNoRequest options (longs_of (fields_of texts)) numbers wholes texts table message))
 
