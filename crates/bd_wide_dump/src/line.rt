@@ -13,7 +13,7 @@ ghost use Rattle.bd_wide_dump.specs.inside.Begins.{AppendsText, HasElements, Has
 
 use crate::element::element_at;
 use crate::format::JsonFormat;
-use crate::number::{append_decimal128, append_double};
+use crate::number::{append_decimal128, put_double_there};
 use crate::relaxed::append_kind;
 use bd_bson_view::{ElementType, RawValue, raw_parts as parts};
 use bd_extjson_text::{End, VALUE, append_few, append_led, append_name, append_separator};
@@ -82,7 +82,7 @@ pub(crate) fn append_fields(
         AppendsText format (doc e.fields) out.old.items end to out.new.items) }
     ensures err { OnErr result (take end out.new.items ≡ take end out.old.items) }
 {
-    let mut at = append_few(b"{", out, end)?;
+    let mut at = append_separator(true, b'{', out, end)?;
     let mut later = false;
     let mut next = start;
     while let Some(element) = element_at(bytes, next) {
@@ -91,7 +91,7 @@ pub(crate) fn append_fields(
         later = true;
         next = element.next;
     }
-    append_few(b"}", out, at)
+    append_separator(true, b'}', out, at)
 }
 
 /// Appends the text of the array of the elements at an offset.
@@ -111,7 +111,7 @@ fn append_items(
         AppendsText format (array (values_in e.fields)) out.old.items end to out.new.items) }
     ensures err { OnErr result (take end out.new.items ≡ take end out.old.items) }
 {
-    let mut at = append_few(b"[", out, end)?;
+    let mut at = append_separator(true, b'[', out, end)?;
     let mut later = false;
     let mut next = start;
     while let Some(element) = element_at(bytes, next) {
@@ -120,7 +120,7 @@ fn append_items(
         later = true;
         next = element.next;
     }
-    append_few(b"]", out, at)
+    append_separator(true, b']', out, at)
 }
 
 /// Appends the text of the value of that type at an offset. There is space for a short one.
@@ -143,7 +143,7 @@ pub(crate) fn append_value(
     ensures err { OnErr result (take end out.new.items ≡ take end out.old.items) }
 {
     match typed {
-        ElementType::Double => append_double(format, bytes, start, out, end),
+        ElementType::Double => Ok(put_double_there(format, bytes, start, out, end)),
         ElementType::Decimal128 => append_decimal128(bytes, start, out, end),
         ElementType::Kept(kind) => append_kept(format, kind, bytes, start, out, end),
     }

@@ -4,14 +4,13 @@ ghost use Rattle.std.specs.Prelude.{◌≡◌, ◌≤◌, ◌+◌, ◌++◌, ℕ
 ghost use Rattle.std.specs.Float.{Ieee.of_bits, binary64, float_is_finite};
 ghost use Rattle.bd_bson_view.specs.Sizes.{long_of};
 ghost use Rattle.bd_bson_view.specs.Spelling.{as_double};
-ghost use Rattle.bd_wide_text.specs.Double.{IsDoubleText};
 ghost use Rattle.bd_wide_text.specs.Layout.{Adds};
 ghost use Rattle.bd_wide_dump.specs.WideText.{IsDoubleIn, IsNumberText, decimal_text, is_bare};
 ghost use Rattle.bd_wide_dump.specs.inside.Begins.{AppendsBy};
 
 use crate::format::JsonFormat;
 use bd_extjson_text::{End, VALUE, append_few};
-use bd_wide_text::{put_double, write_decimal128};
+use bd_wide_text::{put, put_double, write_decimal128};
 
 /// The first eight bytes as a number.
 pub(crate) fn long(bytes: &[u8]) -> u64
@@ -41,28 +40,38 @@ fn is_finite(bits: u64) -> bool
     bits % 0x8000_0000_0000_0000 / 0x10_0000_0000_0000 != 0x7FF
 }
 
-/// Appends the double at an offset of the bytes.
+/// Writes the double at an offset of the bytes after the text in a buffer that has space for it, and returns the new end.
 #[inline(never)]
-pub(crate) fn append_double(
+pub(crate) fn put_double_there(
     format: JsonFormat,
     bytes: &[u8],
     start: usize,
     out: &mut Vec<u8>,
     end: usize,
-) -> End
+) -> usize
     requires value { 8 ≤ length (drop start bytes.now) }
-    requires buffer { end ≤ length out.old.items }
-    ensures text { IfOk result (λ e. AppendsBy
-        (λ text. IsNumberText format as_double (drop start bytes.now) text)
-        out.old.items end e out.new.items) }
-    ensures err { OnErr result (take end out.new.items ≡ take end out.old.items) }
+    requires buffer { end + VALUE ≤ length out.old.items }
+    ensures { AppendsBy (λ text. IsNumberText format as_double (drop start bytes.now) text)
+        out.old.items end result out.new.items }
 {
     let (_, value) = bytes.split_at(start);
     let bits = long(value);
-    if is_bare(format, bits) {
-        return append_digits(bits, out, end);
+    put_double_in(is_bare(format, bits), bits, out.as_mut_slice(), end)
+}
+
+/// Writes a double, without a wrapper or in it, after the text in a buffer, and returns the new end.
+#[inline(always)]
+fn put_double_in(bare: bool, bits: u64, buffer: &mut [u8], end: usize) -> usize
+    requires { end + VALUE ≤ length buffer.old }
+    ensures appended { Adds (IsDoubleIn bare bits) (take end buffer.old) (take result buffer.new) }
+    ensures end { result ≤ end + VALUE }
+{
+    if bare {
+        return put_double(bits, buffer, end);
     }
-    append_wrapped(bits, out, end)
+    let at = put(b"{\"$numberDouble\":\"", buffer, end);
+    let at = put_double(bits, buffer, at);
+    put(b"\"}", buffer, at)
 }
 
 /// Appends a double without a wrapper.
@@ -74,29 +83,6 @@ pub(crate) fn append_digits(bits: u64, out: &mut Vec<u8>, end: usize) -> End
 {
     let at = append_few(b"", out, end)?;
     Ok(put_double(bits, out.as_mut_slice(), at))
-}
-
-/// Appends a double in its wrapper.
-fn append_wrapped(bits: u64, out: &mut Vec<u8>, end: usize) -> End
-    requires { end ≤ length out.old.items }
-    ensures text { IfOk result (λ e.
-        AppendsBy (λ text. IsDoubleIn false bits text) out.old.items end e out.new.items) }
-    ensures err { OnErr result (take end out.new.items ≡ take end out.old.items) }
-{
-    let at = append_few(b"{\"$numberDouble\":\"", out, end)?;
-    let at = put_double_in(bits, out, at);
-    append_few(b"\"}", out, at)
-}
-
-/// Writes the text of a double after the text in a buffer that has space for it, and returns the new end.
-#[inline(always)]
-fn put_double_in(bits: u64, out: &mut Vec<u8>, end: usize) -> usize
-    requires { end + VALUE ≤ length out.old.items }
-    ensures appended { Adds (IsDoubleText bits)
-        (take end out.old.items) (take result out.new.items) }
-    ensures within { result ≤ length out.new.items }
-{
-    put_double(bits, out.as_mut_slice(), end)
 }
 
 /// Appends the decimal128 at an offset of the bytes.

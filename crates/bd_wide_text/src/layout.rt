@@ -8,7 +8,7 @@ use bd_value::NoMemory;
 
 /// Writes bytes after the text in a buffer, and returns the new end.
 #[inline(always)]
-pub(crate) fn put(bytes: &[u8], buffer: &mut [u8], end: usize) -> usize
+pub fn put(bytes: &[u8], buffer: &mut [u8], end: usize) -> usize
     requires { end + length bytes.now ≤ length buffer.old }
     ensures appended { take result buffer.new ≡ take end buffer.old ++ bytes.now }
     ensures end { result ≡ end + length bytes.now }

@@ -14,7 +14,7 @@
 //!   (`specs/inside/LaidOutAnew.antt`).
 //! - `plain`: doubles whose text has no power of ten.
 //! - `decimal128`: `write_decimal128`.
-//! - `layout`: what both use.
+//! - `layout`: what both use, and `put`, which writes bytes into a buffer.
 //! - `laws`: the text of a double is read back as the double.
 #![tactic(auto)]
 
@@ -27,3 +27,4 @@ mod plain;
 pub use decimal128::write_decimal128;
 pub use double::{DOUBLE, put_double, write_double};
 pub use laws::double_text_reads_back;
+pub use layout::put;

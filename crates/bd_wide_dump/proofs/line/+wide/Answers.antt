@@ -1,4 +1,4 @@
-use Rattle.std.proofs.Common.{◌+◌, ◌∷◌, [], drop, length, IfOk, sym, ap, subst, ◌∙◌, arith}
+use Rattle.std.proofs.Common.{◌+◌, ◌∷◌, [], ℕ, drop, length, IfOk, Ok, sym, ap, subst, ◌∙◌, arith}
 use Rattle.bd_value.specs.Tree.{Tree}
 use Rattle.bd_value.specs.declared.node.Kind.{Kind}
 use Rattle.bd_bson_view.specs.declared.raw_parts.ElementType.TheVariants.{Kept}
@@ -21,9 +21,9 @@ append_fields-loop-element-init t c =
     let old = c.args.out.now.items in
     record {
       goes = l.fields_go c.args.format c.args.bytes.now c.args.start _ _ put.0;
-      unchanged = prefix c.args.end c.in_ok-at.at old (123 ∷ []) c.append_few.new.out.items c.requires.buffer put.0;
+      unchanged = prefix c.args.end c.in_ok-at.at old (123 ∷ []) c.append_separator.new.out.items c.requires.buffer put.0;
       inside = put.1;
-      after = rises c.args.end c.in_ok-at.at old (123 ∷ []) c.append_few.new.out.items c.requires.buffer put.0;
+      after = rises c.args.end c.in_ok-at.at old (123 ∷ []) c.append_separator.new.out.items c.requires.buffer put.0;
       behind = omega arith;
     }
 
@@ -74,13 +74,13 @@ append_fields-loop-element-preserved t c =
 pub append_fields-returns-clause-text : goal.append_fields-returns-clause-text
 append_fields-returns-clause-text t c =
     let i = c.loop-element in
-    l.fields_done c.args.format c.args.bytes.now c.args.start i.next i.later c.args.out.now.items i.out.items c.append_few-2.new.out.items c.args.end i.at c.append_few-2.result
-    c.in_default.ensures.none i.invariant.goes c.append_few-2.ensures.text
+    l.fields_done c.args.format c.args.bytes.now c.args.start i.next i.later c.args.out.now.items i.out.items c.append_separator-2.new.out.items c.args.end i.at c.append_separator-2.result
+    c.in_default.ensures.none i.invariant.goes c.append_separator-2.ensures.text
 
 pub append_fields-returns-clause-err : goal.append_fields-returns-clause-err
 append_fields-returns-clause-err t c =
     let i = c.loop-element in
-    l.kept c.args.end i.at c.args.out.now.items i.out.items c.append_few-2.new.out.items (125 ∷ []) c.append_few-2.result i.invariant.after i.invariant.unchanged c.append_few-2.ensures.text
+    l.kept c.args.end i.at c.args.out.now.items i.out.items c.append_separator-2.new.out.items (125 ∷ []) c.append_separator-2.result i.invariant.after i.invariant.unchanged c.append_separator-2.ensures.text
 
 -- ---- the elements of an array
 
@@ -90,9 +90,9 @@ append_items-loop-element-init t c =
     let old = c.args.out.now.items in
     record {
       goes = l.items_go c.args.format c.args.bytes.now c.args.start _ _ put.0;
-      unchanged = prefix c.args.end c.in_ok-at.at old (91 ∷ []) c.append_few.new.out.items c.requires.buffer put.0;
+      unchanged = prefix c.args.end c.in_ok-at.at old (91 ∷ []) c.append_separator.new.out.items c.requires.buffer put.0;
       inside = put.1;
-      after = rises c.args.end c.in_ok-at.at old (91 ∷ []) c.append_few.new.out.items c.requires.buffer put.0;
+      after = rises c.args.end c.in_ok-at.at old (91 ∷ []) c.append_separator.new.out.items c.requires.buffer put.0;
       behind = omega arith;
     }
 
@@ -114,13 +114,13 @@ append_items-loop-element-smaller t c =
 pub append_items-returns-in_err-at-2-clause-err : goal.append_items-returns-in_err-at-2-clause-err
 append_items-returns-in_err-at-2-clause-err t c =
     let i = c.loop-element in
-    l.on_err c.from_residual-in_err-at-2.result (splits c.args.end i.at c.append_separator.new.out.items i.out.items i.invariant.after c.in_err-at-2.ensures.text ∙ i.invariant.unchanged)
+    l.on_err c.from_residual-in_err-at-2.result (splits c.args.end i.at c.append_separator-in-Some.new.out.items i.out.items i.invariant.after c.in_err-at-2.ensures.text ∙ i.invariant.unchanged)
 
 pub append_items-returns-in_err-at-3-clause-err : goal.append_items-returns-in_err-at-3-clause-err
 append_items-returns-in_err-at-3-clause-err t c =
     let i = c.loop-element in
     l.on_err c.from_residual-in_err-at-3.result
-    (still_unchanged c.args.end i.at c.args.out.now.items i.out.items i.invariant.after i.invariant.inside i.invariant.unchanged c.in_ok-at-2.at c.append_separator.new.out.items
+    (still_unchanged c.args.end i.at c.args.out.now.items i.out.items i.invariant.after i.invariant.inside i.invariant.unchanged c.in_ok-at-2.at c.append_separator-in-Some.new.out.items
     c.append_value.new.out.items _ c.in_ok-at-2.ensures.text.0 c.in_err-at-3.ensures.err)
 
 pub append_items-loop-element-preserved : goal.append_items-loop-element-preserved
@@ -130,10 +130,10 @@ append_items-loop-element-preserved t c =
     let w = c.in_ok-at-3.ensures.text x.tree x.here in
     let behind = i.invariant.behind in
     let on = goes_on c.args.end i.at c.args.out.now.items i.out.items i.invariant.after i.invariant.inside i.invariant.unchanged c.in_ok-at-2.at c.in_ok-at-3.at
-    c.append_separator.new.out.items c.append_value.new.out.items _ w.text c.in_ok-at-2.ensures.text.0 w.written in
+    c.append_separator-in-Some.new.out.items c.append_value.new.out.items _ w.text c.in_ok-at-2.ensures.text.0 w.written in
     record {
       goes = l.items_go_on c.args.format c.args.bytes.now c.args.start i.next c.in-Some.element.start c.in-Some.element.next c.in-Some.element.typed c.in-Some.element.name.now i.later _ _
-          c.append_separator.new.out.items c.append_value.new.out.items c.in_ok-at-2.at c.in_ok-at-3.at c.in-Some.ensures.some c.in_ok-at-3.ensures.text i.invariant.goes c.in_ok-at-2.ensures.text.0;
+          c.append_separator-in-Some.new.out.items c.append_value.new.out.items c.in_ok-at-2.at c.in_ok-at-3.at c.in-Some.ensures.some c.in_ok-at-3.ensures.text i.invariant.goes c.in_ok-at-2.ensures.text.0;
       unchanged = on.0;
       inside = w.inside;
       after = on.1;
@@ -143,20 +143,20 @@ append_items-loop-element-preserved t c =
 pub append_items-returns-clause-text : goal.append_items-returns-clause-text
 append_items-returns-clause-text t c =
     let i = c.loop-element in
-    l.items_done c.args.format c.args.bytes.now c.args.start i.next i.later c.args.out.now.items i.out.items c.append_few-2.new.out.items c.args.end i.at c.append_few-2.result
-    c.in_default.ensures.none i.invariant.goes c.append_few-2.ensures.text
+    l.items_done c.args.format c.args.bytes.now c.args.start i.next i.later c.args.out.now.items i.out.items c.append_separator-2.new.out.items c.args.end i.at c.append_separator-2.result
+    c.in_default.ensures.none i.invariant.goes c.append_separator-2.ensures.text
 
 pub append_items-returns-clause-err : goal.append_items-returns-clause-err
 append_items-returns-clause-err t c =
     let i = c.loop-element in
-    l.kept c.args.end i.at c.args.out.now.items i.out.items c.append_few-2.new.out.items (93 ∷ []) c.append_few-2.result i.invariant.after i.invariant.unchanged c.append_few-2.ensures.text
+    l.kept c.args.end i.at c.args.out.now.items i.out.items c.append_separator-2.new.out.items (93 ∷ []) c.append_separator-2.result i.invariant.after i.invariant.unchanged c.append_separator-2.ensures.text
 
 -- ---- values
 
 pub append_value-returns-in-Double-clause-text : goal.append_value-returns-in-Double-clause-text
 append_value-returns-in-Double-clause-text t c = λ tree h.
-    v.wide_appended c.args.format as_double c.args.typed (drop c.args.start c.args.bytes.now) c.args.out.now.items c.args.end c.append_double.new.out.items tree c.append_double.result
-    v.double_is_wide c.in-Double.is (IsBytes-drop c.args.start c.args.bytes.now (λ i. (c.type_inv.bytes i).fits)) h c.append_double.ensures.text
+    v.wide_appended {E = ℕ} c.args.format as_double c.args.typed (drop c.args.start c.args.bytes.now) c.args.out.now.items c.args.end c.put_double_there.new.out.items tree (Ok c.put_double_there.result)
+    v.double_is_wide c.in-Double.is (IsBytes-drop c.args.start c.args.bytes.now (λ i. (c.type_inv.bytes i).fits)) h c.put_double_there.ensures
 
 pub append_value-returns-in-Decimal128-clause-text : goal.append_value-returns-in-Decimal128-clause-text
 append_value-returns-in-Decimal128-clause-text t c = λ tree h.
