@@ -1,21 +1,25 @@
 -- Texts of values on many lines, piece by piece.
-use Rattle.std.proofs.Common.{◌≡◌, ℕ, ◌+◌, ◌-◌, ◌≤◌, ◌%◌, Bool, true, false, List, [], ◌∷◌, ◌++◌, length, take, drop, Result, Ok, Err, refl, sym, ap, ap₂, subst, ◌∙◌, append_assoc, append-nil, arith, ℤ}
-use Rattle.std.specs.Prelude.{IfOk, OnErr, codes, decimal, if◌then◌else◌, unsigned_abs}
+use Rattle.std.proofs.Common.{◌≡◌, ℕ, ◌+◌, ◌-◌, ◌<◌, ◌≤◌, ◌/◌, ◌%◌, Bool, true, false, List, [], ◌∷◌, ◌++◌, length, take, drop, Result, Ok, Err, refl, sym, ap, ap₂, subst, ◌∙◌, append_assoc, append-nil, arith, ℤ}
+use Rattle.std.specs.Prelude.{IfOk, OnErr, codes, decimal, slice_index, if◌then◌else◌, unsigned_abs}
 use Rattle.std.specs.Fmt.{signed_decimal}
+use Rattle.std.specs.List.{list_any}
+use Rattle.std.proofs.lemmas.List.Folds.{list_any_at}
 use Rattle.std.proofs.lemmas.List.{drop_at, take_at, length-append, length-take-le, take-append-drop}
+use Rattle.hex.specs.Hex.{encode_with, lower_digits}
 use Rattle.bd_value.specs.{Limits.longest_document, View.scalar_kind}
 use Rattle.bd_value.specs.declared.node.Kind.{Kind}
 use Rattle.bd_value.specs.declared.node.Kind.TheVariants as kinds
 use Rattle.bd_value.specs.Tree as trees
 use Rattle.bd_value.specs.Tree.{Scalar, Tree, leaf, doc, array, code_scope, Items, no_items, item, Fields, no_fields, field}
-use Rattle.bd_bson_view.specs.Spelling.{NumberKind, as_double, as_int32, as_int64, as_decimal128, number_type}
+use Rattle.bd_bson_view.specs.Spelling.{IsScalar, NumberKind, as_double, as_int32, as_int64, as_decimal128, number_type}
 use Rattle.std.specs.Float.{Ieee.of_bits, binary64}
 use Rattle.bd_bson_view.specs.Sizes.{long_of}
 use Rattle.bd_bson_view.specs.Sound.{Sound, meaning, meaning_is}
 use Rattle.bd_bson_view.specs.declared.raw_parts.ElementType.{ElementType}
 use Rattle.bd_extjson_text.specs.Buffer.{Appends}
-use Rattle.bd_extjson_text.specs.Text.{base64_text, hex_text, id_text, long_text, escape_byte, escaped, object, quoted, text, text, member, scalar_text, wrapper_text}
+use Rattle.bd_extjson_text.specs.Text.{base64_text, hex_text, id_text, long_text, escape_byte, escaped, needs_escape, object, quoted, text, text, member, scalar_text, wrapper_text}
 use Rattle.bd_extjson_text.proofs.BufferLemmas.{chained, prefix, then}
+use Rattle.bd_extjson_text.proofs.JsonStringLemmas.{escaped-plain}
 use Rattle.bd_extjson_text.proofs.TextLemmas.{before}
 use Rattle.bd_wide_text.specs.Double.{IsDoubleText}
 use Rattle.bd_wide_dump.specs.declared.format.JsonFormat.{JsonFormat}
@@ -26,13 +30,13 @@ use Rattle.bd_wide_dump.specs.RelaxedDate.{IsDateTextBy, day_length, instant_tex
 use Rattle.bd_wide_dump.specs.Values.{values_in}
 use Rattle.bd_wide_dump.specs.WideText.{AreBytes, AreMembers, AreTexts, IsDoubleIn, IsKindText, IsNumberText, IsScalarText, IsTextOf, double_text, is_bare}
 use Rattle.bd_wide_dump.specs.inside.Begins.{AppendsBy, HasElements, HasValue, IsElement}
-use Rattle.bd_wide_dump.specs.inside.Indents.{IsDateAt, IsLaid, IsLaidText, IsWrapped, is_direct}
+use Rattle.bd_wide_dump.specs.inside.Indents.{IsBinaryText, IsDateAt, IsLaid, IsLaidText, IsWrapped, after_contents, before_contents, is_direct}
 use Rattle.bd_wide_dump.proofs.BareLemmas.{dated_wrapped, decimal_bare, decimal_wrapped, double_bare, double_quoted, double_wrapped, signed_bare}
 use Rattle.bd_wide_dump.proofs.LineLemmas.{Goes, fields_begun, items_begun, field_goes, item_goes}
 use Rattle.bd_wide_dump.proofs.PrettyLemmas.{begins}
 use Rattle.bd_wide_dump.proofs.RelaxedLemmas.{other_text}
 use Rattle.bd_wide_dump.proofs.ValueLemmas.{IsWide, wide_text}
-use Rattle.bd_wide_dump.proofs.WholeLemmas.{AreWhole, IsWhole, around, bare_alone, bare_whole, close_array, close_object, empty_array, empty_object, listed_whole, member_alone, member_whole, object_whole, quoted_alone, quoted_whole, wrapper_alone, wrapper_whole}
+use Rattle.bd_wide_dump.proofs.WholeLemmas.{AreWhole, IsWhole, around, bare_alone, bare_whole, close_array, close_object, empty_array, empty_object, listed_whole, member_alone, member_whole, object_whole, quoted_alone, quoted_whole, strings_alone, wrapper_alone, wrapper_whole}
 
 -- ---- the texts of values of all types are whole
 
@@ -403,6 +407,117 @@ date_done n z whole number old m1 m2 m3 new end a1 a2 a3 r is same inside one tw
     subst (λ (x : List ℕ). Appends old end r new x) (sym (ap (λ (x : List ℕ). laid_out Outside n 0 x) is ∙ date_alone n z))
     (enclosed n (codes "\"$date\": " ++ inner) old m1 m3 new end a1 a3 r inside one (chained a1 a2 a3 m1 m2 m3 (codes "\"$date\": ") inner two written) last)
 
+-- ---- binary data
+
+digit_plain : (i : ℕ) → i < 16 → needs_escape (slice_index lower_digits i) ≡ false
+digit_plain i few = by (needs_escape (slice_index lower_digits i)) refl
+  where
+    by : (b : Bool) → needs_escape (slice_index lower_digits i) ≡ b → b ≡ false
+    by false e = refl
+    by true e = sym (list_any_at needs_escape lower_digits i 0 few e)
+
+digits_size : (k : ℕ) → k < 256 → length (quoted (hex_text (k ∷ []))) ≡ 4
+unfolding quoted hex_text encode_with
+digits_size k byte =
+    let digits : List ℕ = slice_index lower_digits (k / 16) ∷ slice_index lower_digits (k % 16) ∷ [] in
+    let high = digit_plain (k / 16) (omega arith) in
+    let low = digit_plain (k % 16) (omega arith) in
+    let plain : list_any needs_escape digits ≡ false = rw (high, low) refl in
+    ap (λ (x : List ℕ). length (34 ∷ (x ++ 34 ∷ []))) (escaped-plain digits plain)
+
+pub binary_text : (s : Scalar) (content : List ℕ) → scalar_kind s ≡ kinds.Binary → IsScalar s content → (contents : List ℕ) × (digits : List ℕ) × IsBinaryText contents digits (scalar_text s)
+unfolding scalar_text
+binary_text (trees.binary k bytes) content is spells = (base64_text bytes, hex_text (k ∷ []), (digits_size k spells.0.0, refl))
+binary_text _ content is spells = absurd cc
+
+-- its text is the same in both formats
+pub binary_known : (format : JsonFormat) (s : Scalar) → scalar_kind s ≡ kinds.Binary → IsKindText format s (scalar_text s)
+binary_known Canonical s is = refl
+binary_known Relaxed s is = other_text s (λ e. cc) (λ e. cc) (λ e. cc)
+
+-- the text on one line in pieces
+spread : (n p a x q b y e : List ℕ) → (n ++ (p ++ (((a ++ x) ++ (q ++ (b ++ y))) ++ e))) ++ e ≡ n ++ (p ++ (a ++ (x ++ (q ++ (b ++ (y ++ (e ++ e)))))))
+spread n p a x q b y e = simp append_assoc
+
+one_line : (x y : List ℕ) → wrapper_text (codes "$binary") (object (member (codes "base64") x ∷ member (codes "subType") y ∷ []))
+    ≡ codes "{\"$binary\":{\"base64\":" ++ (x ++ (codes ",\"subType\":" ++ (y ++ codes "}}")))
+unfolding quoted escape_byte
+one_line x y =
+    ap (λ (l : List ℕ). 123 ∷ l) (spread (quoted (codes "$binary")) (58 ∷ 123 ∷ []) (quoted (codes "base64")) (58 ∷ x) (44 ∷ []) (quoted (codes "subType")) (58 ∷ y) (125 ∷ []))
+
+part : (pre x post text : List ℕ) (a b : ℕ) → text ≡ pre ++ (x ++ post) → length pre ≡ a → a + length x ≡ b → take (b - a) (drop a text) ≡ x
+part pre x post text a b is from to =
+    ap (λ (l : List ℕ). take (b - a) (drop a l)) is ∙ ap (take (b - a)) (drop_at pre (x ++ post) a from) ∙ take_at x post (b - a) (omega (arith, to))
+
+module _ (contents digits text : List ℕ) (is : IsBinaryText contents digits text) where
+  pub binary_size : length text ≡ length (quoted contents) + 38
+  binary_size =
+      let rest : List ℕ = codes ",\"subType\":" ++ (quoted digits ++ codes "}}") in
+      omega (
+        arith,
+        is.0,
+        ap (λ (x : List ℕ). length x) (is.1 ∙ one_line (quoted contents) (quoted digits)),
+        length-append (codes "{\"$binary\":{\"base64\":") (quoted contents ++ rest),
+        length-append (quoted contents) rest,
+        length-append (codes ",\"subType\":") (quoted digits ++ codes "}}"),
+        length-append (quoted digits) (codes "}}"),
+      )
+
+  pub contents_there : (n : ℕ) → n ≡ length text → take (n - 17 - 21) (drop 21 text) ≡ quoted contents
+  contents_there n all =
+      part (codes "{\"$binary\":{\"base64\":") (quoted contents) (codes ",\"subType\":" ++ (quoted digits ++ codes "}}")) text 21 (n - 17) (is.1 ∙ one_line (quoted contents) (quoted digits)) refl
+      (omega (arith, all, binary_size))
+
+  pub digits_there : (n : ℕ) → n ≡ length text → take (n - 2 - (n - 6)) (drop (n - 6) text) ≡ quoted digits
+  digits_there n all =
+      let start : List ℕ = codes "{\"$binary\":{\"base64\":" ++ (quoted contents ++ codes ",\"subType\":") in
+      let size = length-append (codes "{\"$binary\":{\"base64\":") (quoted contents ++ codes ",\"subType\":") in
+      let inner = length-append (quoted contents) (codes ",\"subType\":") in
+      part start (quoted digits) (codes "}}") text (n - 6) (n - 2) (is.1 ∙ one_line (quoted contents) (quoted digits) ∙ simp append_assoc)
+      (omega (arith, all, binary_size, size, inner)) (omega (arith, all, binary_size, is.0))
+
+-- the text on many lines in pieces
+lines_spread : (n p a c x q b y e l m k : List ℕ) → l ++ ((n ++ (p ++ (m ++ (((a ++ (c ++ x)) ++ (q ++ (m ++ (b ++ y)))) ++ (l ++ e))))) ++ (k ++ e))
+    ≡ (l ++ (n ++ (p ++ (m ++ (a ++ c))))) ++ (x ++ (q ++ (m ++ (b ++ (y ++ (l ++ (e ++ (k ++ e))))))))
+lines_spread n p a c x q b y e l m k = simp append_assoc
+
+many_lines : (n : ℕ) (x y : List ℕ) → around 123 125 n (quoted (codes "$binary") ++ 58 ∷ 32 ∷ around 123 125 (n + 1) ((quoted (codes "base64") ++ 58 ∷ 32 ∷ x)
+    ++ 44 ∷ (line_end (n + 1 + 1) ++ (quoted (codes "subType") ++ 58 ∷ 32 ∷ y)))) ≡ before_contents n ++ (x ++ after_contents n y)
+unfolding quoted escape_byte
+many_lines n x y =
+    ap (λ (l : List ℕ). 123 ∷ l) (lines_spread (quoted (codes "$binary")) (codes ": {") (quoted (codes "base64")) (codes ": ") x (44 ∷ []) (quoted (codes "subType")) (58 ∷ 32 ∷ y) (125 ∷ [])
+    (line_end (n + 1)) (line_end (n + 1 + 1)) (line_end n))
+
+binary_alone : (n : ℕ) (contents digits text : List ℕ) → IsBinaryText contents digits text → laid_out Outside n 0 text ≡ before_contents n ++ (quoted contents ++ after_contents n (quoted digits))
+binary_alone n contents digits text is =
+    let first : List ℕ = member (codes "base64") (quoted contents) in
+    let second : List ℕ = member (codes "subType") (quoted digits) in
+    let one = member_whole (codes "base64") (quoted contents) (quoted_whole contents) in
+    let two = member_whole (codes "subType") (quoted digits) (quoted_whole digits) in
+    ap (λ (l : List ℕ). laid_out Outside n 0 l) is.1 ∙ wrapper_alone n (codes "$binary") (object (first ∷ second ∷ [])) (object_whole (first ∷ second ∷ []) (one, (two, tt)))
+    ∙ ap (λ (l : List ℕ). around 123 125 n (quoted (codes "$binary") ++ 58 ∷ 32 ∷ l)) (strings_alone (n + 1) (codes "base64") contents (codes "subType") digits) ∙ many_lines n (quoted contents) (quoted digits)
+
+pub binary_done : (n : ℕ) (contents digits text old m1 m2 new : List ℕ) (end a1 a2 a3 : ℕ) → IsBinaryText contents digits text → take a1 m1 ≡ take end old ++ before_contents n
+    → take a2 m2 ≡ take a1 m1 ++ quoted contents → take a3 new ≡ take a2 m2 ++ after_contents n (quoted digits) → take a3 new ≡ take end old ++ laid_out Outside n 0 text
+binary_done n contents digits text old m1 m2 new end a1 a2 a3 is one two three =
+    let rest : List ℕ = quoted contents ++ after_contents n (quoted digits) in
+    chained end a1 a3 old m1 new (before_contents n) rest one (chained a1 a2 a3 m1 m2 new (quoted contents) (after_contents n (quoted digits)) two three)
+    ∙ ap (λ (l : List ℕ). take end old ++ l) (sym (binary_alone n contents digits text is))
+
+-- both parts in the pieces in which they are written
+pub before_pieces : (old : List ℕ) (n : ℕ) → ((((old ++ codes "{") ++ line_end (n + 1)) ++ codes "\"$binary\": {") ++ line_end (n + 1 + 1)) ++ codes "\"base64\": " ≡ old ++ before_contents n
+before_pieces old n = five old (codes "{") (line_end (n + 1)) (codes "\"$binary\": {") (line_end (n + 1 + 1)) (codes "\"base64\": ")
+  where
+    five : (o a b c d e : List ℕ) → ((((o ++ a) ++ b) ++ c) ++ d) ++ e ≡ o ++ (a ++ (b ++ (c ++ (d ++ e))))
+    five o a b c d e = simp append_assoc
+
+pub after_pieces : (old : List ℕ) (n : ℕ) (digits : List ℕ)
+    → (((((((old ++ codes ",") ++ line_end (n + 1 + 1)) ++ codes "\"subType\": ") ++ digits) ++ line_end (n + 1)) ++ codes "}") ++ line_end n) ++ codes "}" ≡ old ++ after_contents n digits
+after_pieces old n digits = eight old (codes ",") (line_end (n + 1 + 1)) (codes "\"subType\": ") digits (line_end (n + 1)) (codes "}") (line_end n) (codes "}")
+  where
+    eight : (o a b c d e f g h : List ℕ) → (((((((o ++ a) ++ b) ++ c) ++ d) ++ e) ++ f) ++ g) ++ h ≡ o ++ (a ++ (b ++ (c ++ (d ++ (e ++ (f ++ (g ++ h)))))))
+    eight o a b c d e f g h = simp append_assoc
+
 -- ---- doubles
 
 double_alone : (n bits : ℕ) (number : List ℕ) → IsDoubleText bits number
@@ -489,16 +604,17 @@ direct_no_holder format kind h =
     let P : Kind → Type 0 = λ k. is_direct format k ≡ true in
     (λ e. let f : false ≡ true = subst P e h in absurd cc, λ e. let f : false ≡ true = subst P e h in absurd cc, λ e. let f : false ≡ true = subst P e h in absurd cc)
 
-pub token_kind : (format : JsonFormat) (kind : Kind) → is_direct format kind ≡ true → (kind ≡ kinds.ObjectId → ⊥) → (kind ≡ kinds.Date → ⊥) → (kind ≡ kinds.Int32 → ⊥) → (kind ≡ kinds.Int64 → ⊥)
-    → is_token format kind ≡ true
-token_kind format kinds.Text h a b c d = refl
-token_kind format kinds.Null h a b c d = refl
-token_kind format kinds.Bool h a b c d = refl
-token_kind format kinds.ObjectId h a b c d = absurd (a refl)
-token_kind format kinds.Date h a b c d = absurd (b refl)
-token_kind format kinds.Int32 h a b c d = absurd (c refl)
-token_kind format kinds.Int64 h a b c d = absurd (d refl)
-token_kind format _ h a b c d = absurd cc
+pub token_kind : (format : JsonFormat) (kind : Kind) → is_direct format kind ≡ true → (kind ≡ kinds.ObjectId → ⊥) → (kind ≡ kinds.Date → ⊥) → (kind ≡ kinds.Binary → ⊥) → (kind ≡ kinds.Int32 → ⊥)
+    → (kind ≡ kinds.Int64 → ⊥) → is_token format kind ≡ true
+token_kind format kinds.Text h a b c d e = refl
+token_kind format kinds.Null h a b c d e = refl
+token_kind format kinds.Bool h a b c d e = refl
+token_kind format kinds.ObjectId h a b c d e = absurd (a refl)
+token_kind format kinds.Date h a b c d e = absurd (b refl)
+token_kind format kinds.Binary h a b c d e = absurd (c refl)
+token_kind format kinds.Int32 h a b c d e = absurd (d refl)
+token_kind format kinds.Int64 h a b c d e = absurd (e refl)
+token_kind format _ h a b c d e = absurd cc
 
 canonical_date : (format : JsonFormat) → is_direct format kinds.Date ≡ true → format ≡ Canonical
 canonical_date Canonical h = refl

@@ -1,5 +1,5 @@
 -- The text of a value on many lines: what is before and after it makes no difference within it.
-use Rattle.std.proofs.Common.{◌≡◌, ℕ, ◌+◌, ◌-◌, ◌/◌, ◌%◌, ◌==◌, ◌<◌, ◌≤◌, Bool, true, false, List, [], ◌∷◌, ◌++◌, length, refl, sym, ap, ◌∙◌, subst, append_assoc, append-nil, arith}
+use Rattle.std.proofs.Common.{◌≡◌, ℕ, ◌+◌, ◌-◌, ◌/◌, ◌%◌, ◌==◌, ◌<◌, ◌≤◌, Bool, true, false, List, [], ◌∷◌, ◌++◌, length, refl, sym, ap, ap₂, ◌∙◌, subst, append_assoc, append-nil, arith}
 use Rattle.std.specs.Prelude.{if◌then◌else◌, nat_lt, ◌||◌, codes}
 use Rattle.std.specs.{Char.digit_char, List.list_any, List.join_with_byte}
 use Rattle.std.proofs.lemmas.Bool.{or_parts, ltb-true, ltb-false, ne_eqb, le-ltb}
@@ -249,3 +249,19 @@ pub wrapper_alone : (n : ℕ) (name value : List ℕ) → IsWhole value
 wrapper_alone n name value h =
     alone n (wrapper_text name value) (around 123 125 n (laid_out Outside (n + 1) 0 (member name value))) (object_lays n (member name value) (member_whole name value h))
     ∙ ap (around 123 125 n) (member_alone (n + 1) name value h)
+
+-- two strings in an object
+string_member : (n : ℕ) (name contents : List ℕ) → laid_out Outside n 0 (member name (quoted contents)) ≡ quoted name ++ 58 ∷ 32 ∷ quoted contents
+string_member n name contents = member_alone n name (quoted contents) (quoted_whole contents) ∙ ap (λ (l : List ℕ). quoted name ++ 58 ∷ 32 ∷ l) (quoted_alone n contents)
+
+pub strings_alone : (n : ℕ) (a x b y : List ℕ) → laid_out Outside n 0 (object (member a (quoted x) ∷ member b (quoted y) ∷ []))
+    ≡ around 123 125 n ((quoted a ++ 58 ∷ 32 ∷ quoted x) ++ 44 ∷ (line_end (n + 1) ++ (quoted b ++ 58 ∷ 32 ∷ quoted y)))
+strings_alone n a x b y =
+    let first : List ℕ = member a (quoted x) in
+    let second : List ℕ = member b (quoted y) in
+    let one = member_whole a (quoted x) (quoted_whole x) in
+    let two = member_whole b (quoted y) (quoted_whole y) in
+    let laid : List ℕ = laid_out Outside (n + 1) 0 first ++ 44 ∷ (line_end (n + 1) ++ laid_out Outside (n + 1) 0 second) in
+    alone n (object (first ∷ second ∷ [])) (around 123 125 n (laid_out Outside (n + 1) 0 (first ++ 44 ∷ second))) (object_lays n (first ++ 44 ∷ second) (joined_whole first (second ∷ []) one (two, tt)))
+    ∙ ap (around 123 125 n) (alone (n + 1) (first ++ 44 ∷ second) laid (comma_lays (n + 1) first second one two)
+    ∙ ap₂ (λ (u v : List ℕ). u ++ 44 ∷ (line_end (n + 1) ++ v)) (string_member (n + 1) a x) (string_member (n + 1) b y))

@@ -1,6 +1,6 @@
 //! The text of a document on many lines, printed while the document is read.
 
-ghost use Rattle.std.specs.Prelude.{◌≡◌, ◌≤◌, ◌+◌, ◌++◌, ◌∷◌, [], ℕ, List, None, length, take, drop, IfOk, OnErr, false, true, if◌then◌else◌};
+ghost use Rattle.std.specs.Prelude.{◌≡◌, ◌<◌, ◌≤◌, ◌+◌, ◌++◌, ◌∷◌, [], ℕ, List, None, length, take, drop, IfOk, OnErr, false, true, if◌then◌else◌};
 ghost use Rattle.bd_value.specs.Limits.{longest_document, longest_input};
 ghost use Rattle.bd_value.specs.Tree as trees;
 ghost use Rattle.bd_value.specs.Tree.{Tree, array, doc, leaf};
@@ -16,17 +16,23 @@ ghost use Rattle.bd_wide_dump.specs.Values.{values_in};
 ghost use Rattle.bd_wide_dump.specs.WideText.{IsDoubleIn, IsNumberText, IsTextOfBytes};
 ghost use Rattle.bd_wide_dump.specs.declared.pretty.Position.TheVariants.{Outside};
 ghost use Rattle.bd_wide_dump.specs.inside.Begins.{AppendsBy, HasElements, HasValue};
-ghost use Rattle.bd_wide_dump.specs.inside.Indents.{IsDateAt, IsLaid, IsLaidText, IsWrapped, is_direct};
+ghost use Rattle.bd_wide_dump.specs.inside.Indents.{IsBinaryText, IsDateAt, IsLaid, IsLaidText, IsWrapped, after_contents, before_contents, is_direct};
 
 use crate::element::element_at;
 use crate::format::JsonFormat;
 use crate::line::append_value;
 use crate::number::{append_digits, is_bare, long};
-use crate::pretty::{append_line_end, append_pretty};
+use crate::pretty::{BLOCK, append_line_end, append_pretty, put_line_end};
 use crate::relaxed::append_kind;
 use bd_bson_view::{ElementType, RawValue};
 use bd_extjson_text::{End, VALUE, append_few, append_name, append_node, append_separator};
 use bd_value::Kind;
+
+/// More space than a brace and the line end after it take.
+const ROOM: usize = 2 * BLOCK + 1;
+
+/// How few brackets are open where the text of binary data is written at once.
+const SHALLOW: usize = 14;
 
 /// Appends the text of a document of all types, whose bytes have no fault, on many lines, with a tab for each bracket that is open,
 /// after the first `end` bytes of a buffer, and returns where the text ends. There is no line end after it. `spare` is a buffer for
@@ -71,7 +77,7 @@ pub(crate) fn indent_fields(
         (IsLaidText format level (doc e.fields)) out.old.items end to out.new.items) }
     ensures err { OnErr result (take end out.new.items ≡ take end out.old.items) }
 {
-    let mut at = append_few(b"{", out, end)?;
+    let mut at = append_separator(true, b'{', out, end)?;
     let mut later = false;
     let mut next = start;
     while let Some(element) = element_at(bytes, next) {
@@ -114,7 +120,7 @@ fn indent_items(
         out.new.items) }
     ensures err { OnErr result (take end out.new.items ≡ take end out.old.items) }
 {
-    let mut at = append_few(b"[", out, end)?;
+    let mut at = append_separator(true, b'[', out, end)?;
     let mut later = false;
     let mut next = start;
     while let Some(element) = element_at(bytes, next) {
@@ -195,7 +201,9 @@ fn indent_kept(
     match kind {
         Kind::Doc => indent_fields(format, bytes, start + 4, level, spare, out, end),
         Kind::Array => indent_items(format, bytes, start + 4, level, spare, out, end),
-        _ if is_direct(format, kind) => indent_direct(format, kind, bytes, start, level, out, end),
+        _ if is_direct(format, kind) => {
+            indent_direct(format, kind, bytes, start, level, spare, out, end)
+        }
         _ => {
             let typed = ElementType::Kept(kind);
             indent_other(format, typed, bytes, start, level, spare, out, end)
@@ -235,7 +243,8 @@ fn is_direct(format: JsonFormat, kind: Kind) -> bool
     ensures { result ≡ is_direct format kind }
 {
     match kind {
-        Kind::Text | Kind::Null | Kind::Bool | Kind::Int32 | Kind::Int64 | Kind::ObjectId => true,
+        Kind::Text | Kind::Null | Kind::Bool | Kind::Int32 | Kind::Int64 => true,
+        Kind::ObjectId | Kind::Binary => true,
         Kind::Date => match format {
             JsonFormat::Canonical => true,
             JsonFormat::Relaxed => false,
@@ -252,6 +261,7 @@ fn indent_direct(
     bytes: &[u8],
     start: usize,
     level: usize,
+    spare: &mut Vec<u8>,
     out: &mut Vec<u8>,
     end: usize,
 ) -> End
@@ -270,6 +280,7 @@ fn indent_direct(
     match kind {
         Kind::ObjectId => indent_string(b"\"$oid\": \"", node, level, out, end),
         Kind::Date => indent_date(bytes, start, level, out, end),
+        Kind::Binary => indent_binary(node, level, spare, out, end),
         Kind::Int32 => match format {
             JsonFormat::Canonical => { indent_string(b"\"$numberInt\": \"", node, level, out, end) }
             JsonFormat::Relaxed => append_kind(format, node, out, end),
@@ -296,7 +307,7 @@ fn indent_string(
 ) -> End
     requires wrapper { IsWrapped lead.now (text (value_tree node)) }
     requires level { level ≤ longest_input }
-    requires buffer { end ≤ length out.old.items }
+    requires buffer { end + ROOM ≤ length out.old.items }
     ensures { Appends out.old.items end result out.new.items
         (laid_out Outside level 0 (text (value_tree node.entry))) }
 {
@@ -304,6 +315,19 @@ fn indent_string(
     let to = append_node(node, out, at)?;
     put_over(lead, out.as_mut_slice(), at);
     append_closing(true, level, b'}', out, to - 1)
+}
+
+/// Writes bytes after the text, and returns where it ends.
+#[inline(always)]
+fn put(bytes: &[u8], out: &mut Vec<u8>, end: usize) -> usize
+    requires { end + length bytes.now ≤ length out.old.items }
+    ensures text { take result out.new.items ≡ take end out.old.items ++ bytes.now }
+    ensures end { result ≡ end + length bytes.now }
+    ensures size { length out.new.items ≡ length out.old.items }
+{
+    let after = end + bytes.len();
+    out.as_mut_slice()[end..after].copy_from_slice(bytes);
+    after
 }
 
 /// Writes bytes over others.
@@ -322,15 +346,92 @@ fn indent_date(bytes: &[u8], start: usize, level: usize, out: &mut Vec<u8>, end:
     requires inside { start ≤ length bytes.now }
     requires date { (s : trees.Scalar) × IsDateAt s (drop start bytes.now) }
     requires level { level ≤ longest_document }
-    requires buffer { end ≤ length out.old.items }
+    requires buffer { end + ROOM ≤ length out.old.items }
     ensures { (s : trees.Scalar) → IsDateAt s (drop start bytes.now) →
         Appends out.old.items end result out.new.items (laid_out Outside level 0 (scalar_text s)) }
 {
     let at = append_opening(level, out, end)?;
-    let at = append_few(b"\"$date\": ", out, at)?;
+    let at = put(b"\"$date\": ", out, at);
     let inner = RawValue::there(Kind::Int64, bytes, start);
     let at = indent_string(b"\"$numberLong\": \"", inner, level + 1, out, at)?;
     append_closing(true, level, b'}', out, at)
+}
+
+/// Appends the text of binary data. It is made on one line before, and the strings in it are copied from there.
+#[inline(never)]
+fn indent_binary(
+    node: RawValue<'_>,
+    level: usize,
+    spare: &mut Vec<u8>,
+    out: &mut Vec<u8>,
+    end: usize,
+) -> End
+    requires binary { (contents : List ℕ) × (digits : List ℕ)
+        × IsBinaryText contents digits (text (value_tree node)) }
+    requires level { level ≤ longest_document }
+    requires buffer { end + VALUE ≤ length out.old.items }
+    ensures { Appends out.old.items end result out.new.items
+        (laid_out Outside level 0 (text (value_tree node.entry))) }
+{
+    let at = append_few(b"", spare, 0)?;
+    let size = append_node(node, spare, at)?;
+    if level >= SHALLOW {
+        return append_pretty(level, &spare[..size], out, end);
+    }
+    let (contents, digits) = binary_strings(&spare[..size]);
+    let at = put_before_contents(level, out, end);
+    let at = append_few(contents, out, at)?;
+    Ok(put_after_contents(level, digits, out, at))
+}
+
+/// The strings in the text of binary data on one line.
+#[inline(always)]
+fn binary_strings(text: &[u8]) -> (&[u8], &[u8])
+    requires { (contents : List ℕ) × (digits : List ℕ) × IsBinaryText contents digits text.now }
+    ensures strings { (contents : List ℕ) → (digits : List ℕ)
+        → IsBinaryText contents digits text.now
+        → (result.0.now ≡ quoted contents) × (result.1.now ≡ quoted digits) }
+    ensures size { length result.1.now ≡ 4 }
+{
+    let size = text.len();
+    (&text[21..size - 17], &text[size - 6..size - 2])
+}
+
+/// Writes the text of binary data before the first string in it.
+#[inline(always)]
+fn put_before_contents(level: usize, out: &mut Vec<u8>, end: usize) -> usize
+    requires level { level < SHALLOW }
+    requires buffer { end + VALUE ≤ length out.old.items }
+    ensures text { take result out.new.items ≡ take end out.old.items ++ before_contents level }
+    ensures within { result ≤ length out.new.items }
+{
+    let inner = level + 1;
+    let at = put(b"{", out, end);
+    let at = put_line_end(inner, out, at);
+    let at = put(b"\"$binary\": {", out, at);
+    let at = put_line_end(inner + 1, out, at);
+    put(b"\"base64\": ", out, at)
+}
+
+/// Writes the text of binary data after the first string in it.
+#[inline(always)]
+fn put_after_contents(level: usize, digits: &[u8], out: &mut Vec<u8>, end: usize) -> usize
+    requires level { level < SHALLOW }
+    requires digits { length digits.now ≡ 4 }
+    requires buffer { end + VALUE ≤ length out.old.items }
+    ensures text { take result out.new.items
+        ≡ take end out.old.items ++ after_contents level digits.now }
+    ensures within { result ≤ length out.new.items }
+{
+    let inner = level + 1;
+    let at = put(b",", out, end);
+    let at = put_line_end(inner + 1, out, at);
+    let at = put(b"\"subType\": ", out, at);
+    let at = put(digits, out, at);
+    let at = put_line_end(inner, out, at);
+    let at = put(b"}", out, at);
+    let at = put_line_end(level, out, at);
+    put(b"}", out, at)
 }
 
 /// Appends the text of the double at an offset.
@@ -345,7 +446,7 @@ fn indent_double(
 ) -> End
     requires value { 8 ≤ length (drop start bytes.now) }
     requires level { level ≤ longest_document }
-    requires buffer { end ≤ length out.old.items }
+    requires buffer { end + ROOM ≤ length out.old.items }
     ensures text { IfOk result (λ e. AppendsBy (IsLaid level
         (IsNumberText format as_double (drop start bytes.now))) out.old.items end e
         out.new.items) }
@@ -362,15 +463,15 @@ fn indent_double(
 /// Appends a double in its wrapper.
 fn indent_wrapped(bits: u64, level: usize, out: &mut Vec<u8>, end: usize) -> End
     requires level { level ≤ longest_document }
-    requires buffer { end ≤ length out.old.items }
+    requires buffer { end + ROOM ≤ length out.old.items }
     ensures text { IfOk result (λ e.
         AppendsBy (IsLaid level (IsDoubleIn false bits)) out.old.items end e out.new.items) }
     ensures err { OnErr result (take end out.new.items ≡ take end out.old.items) }
 {
     let at = append_opening(level, out, end)?;
-    let at = append_few(b"\"$numberDouble\": \"", out, at)?;
+    let at = put(b"\"$numberDouble\": \"", out, at);
     let at = append_digits(bits, out, at)?;
-    let at = append_few(b"\"", out, at)?;
+    let at = append_separator(true, b'"', out, at)?;
     append_closing(true, level, b'}', out, at)
 }
 
@@ -378,8 +479,9 @@ fn indent_wrapped(bits: u64, level: usize, out: &mut Vec<u8>, end: usize) -> End
 #[inline(always)]
 fn append_line(later: bool, level: usize, out: &mut Vec<u8>, end: usize) -> End
     requires { end ≤ length out.old.items }
-    ensures { Appends out.old.items end result out.new.items
+    ensures text { Appends out.old.items end result out.new.items
         ((if later then 44 ∷ [] else []) ++ line_end level) }
+    ensures capacity { IfOk result (λ e. e + BLOCK ≤ length out.new.items) }
 {
     let at = append_separator(later, b',', out, end)?;
     append_line_end(level, out, at)
@@ -415,11 +517,11 @@ fn append_label(later: bool, level: usize, name: &str, out: &mut Vec<u8>, end: u
 #[inline(always)]
 fn append_opening(level: usize, out: &mut Vec<u8>, end: usize) -> End
     requires level { level ≤ longest_input }
-    requires buffer { end ≤ length out.old.items }
+    requires buffer { end + ROOM ≤ length out.old.items }
     ensures text { Appends out.old.items end result out.new.items (123 ∷ line_end (level + 1)) }
     ensures capacity { IfOk result (λ e. e + VALUE ≤ length out.new.items) }
 {
-    let at = append_separator(true, b'{', out, end)?;
+    let at = put(b"{", out, end);
     let at = append_line_end(level + 1, out, at)?;
     append_separator(false, b',', out, at)
 }
@@ -433,7 +535,7 @@ fn append_closing(is_filled: bool, level: usize, bracket: u8, out: &mut Vec<u8>,
 {
     if is_filled {
         let at = append_line(false, level, out, end)?;
-        return append_separator(true, bracket, out, at);
+        return Ok(put(&[bracket], out, at));
     }
     append_separator(true, bracket, out, end)
 }

@@ -1,6 +1,6 @@
 //! A text of JSON on many lines.
 
-ghost use Rattle.std.specs.Prelude.{◌≡◌, ◌<◌, ◌≤◌, ◌+◌, ◌++◌, ℕ, IfOk, length, take};
+ghost use Rattle.std.specs.Prelude.{◌≡◌, ◌<◌, ◌≤◌, ◌+◌, ◌*◌, ◌++◌, ℕ, IfOk, length, take};
 ghost use Rattle.bd_value.specs.Limits.{longest_document};
 ghost use Rattle.bd_extjson_text.specs.Buffer.{Appends};
 ghost use Rattle.bd_wide_dump.specs.Pretty.{closes, gap, laid_out, line_end, next_place, open_after, opens};
@@ -21,7 +21,7 @@ pub(crate) enum Position {
 }
 
 /// How many bytes are copied together, so that the copy is of a known length.
-const BLOCK: usize = 32;
+pub(crate) const BLOCK: usize = 32;
 
 /// A line end, and tabs.
 const LINE_END: [u8; 32] = *b"\n\t\t\t\t\t\t\t\t\t\t\t\t\t\t\t\t\t\t\t\t\t\t\t\t\t\t\t\t\t\t\t";
@@ -150,15 +150,26 @@ fn append_gap(level: usize, before: u8, after: u8, out: &mut Vec<u8>, end: usize
 /// Appends a line end and that many tabs.
 #[inline(always)]
 pub(crate) fn append_line_end(tabs: usize, out: &mut Vec<u8>, end: usize) -> End
-    requires { end + VALUE ≤ length out.old.items }
+    requires { end + 2 * BLOCK ≤ length out.old.items }
     ensures text { Appends out.old.items end result out.new.items (line_end tabs) }
     ensures capacity { IfOk result (λ e. e + BLOCK ≤ length out.new.items) }
 {
     if tabs < BLOCK {
-        put_block(&LINE_END, out.as_mut_slice(), end);
-        return Ok(end + (tabs + 1));
+        return Ok(put_line_end(tabs, out, end));
     }
     append_tabs(tabs, out, end)
+}
+
+/// Writes a line end and that many tabs after the text.
+#[inline(always)]
+pub(crate) fn put_line_end(tabs: usize, out: &mut Vec<u8>, end: usize) -> usize
+    requires { (tabs < BLOCK) × (end + BLOCK ≤ length out.old.items) }
+    ensures text { take result out.new.items ≡ take end out.old.items ++ line_end tabs }
+    ensures end { result ≡ end + (tabs + 1) }
+    ensures size { length out.new.items ≡ length out.old.items }
+{
+    put_block(&LINE_END, out.as_mut_slice(), end);
+    end + (tabs + 1)
 }
 
 /// The same for many tabs.

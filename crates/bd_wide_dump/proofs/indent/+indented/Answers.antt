@@ -21,9 +21,9 @@ indent_fields-loop-element-init t c =
     let old = c.args.out.now.items in
     record {
       goes = n.fields_laid c.args.format c.args.level c.args.bytes.now c.args.start _ _ put.0;
-      unchanged = prefix c.args.end c.in_ok-at.at old (123 ∷ []) c.append_few.new.out.items c.requires.buffer put.0;
+      unchanged = prefix c.args.end c.in_ok-at.at old (123 ∷ []) c.append_separator.new.out.items c.requires.buffer put.0;
       inside = put.1;
-      after = rises c.args.end c.in_ok-at.at old (123 ∷ []) c.append_few.new.out.items c.requires.buffer put.0;
+      after = rises c.args.end c.in_ok-at.at old (123 ∷ []) c.append_separator.new.out.items c.requires.buffer put.0;
       behind = omega arith;
     }
 
@@ -96,9 +96,9 @@ indent_items-loop-element-init t c =
     let old = c.args.out.now.items in
     record {
       goes = n.items_laid c.args.format c.args.level c.args.bytes.now c.args.start _ _ put.0;
-      unchanged = prefix c.args.end c.in_ok-at.at old (91 ∷ []) c.append_few.new.out.items c.requires.buffer put.0;
+      unchanged = prefix c.args.end c.in_ok-at.at old (91 ∷ []) c.append_separator.new.out.items c.requires.buffer put.0;
       inside = put.1;
-      after = rises c.args.end c.in_ok-at.at old (91 ∷ []) c.append_few.new.out.items c.requires.buffer put.0;
+      after = rises c.args.end c.in_ok-at.at old (91 ∷ []) c.append_separator.new.out.items c.requires.buffer put.0;
       behind = omega arith;
     }
 

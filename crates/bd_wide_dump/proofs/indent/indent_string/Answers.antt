@@ -8,7 +8,7 @@ use Rattle.bd_wide_dump.proofs.indent.indent_string.Goals as goal
 pub returns-in_err-to : goal.returns-in_err-to
 returns-in_err-to c =
     failed _ _ _ _ c.from_residual-in_err-to.result c.from_residual-in_err-to.ensures.0
-    (prefix c.args.end c.in_ok-at.at c.args.out.now.items _ c.append_node.new.out.items c.requires.buffer (c.in_err-to.ensures ∙ c.in_ok-at.ensures.text.0))
+    (prefix c.args.end c.in_ok-at.at c.args.out.now.items _ c.append_node.new.out.items (omega arith) (c.in_err-to.ensures ∙ c.in_ok-at.ensures.text.0))
 
 pub put_over-requires : goal.put_over-requires
 put_over-requires c =
@@ -37,4 +37,4 @@ returns c =
     let P : List ℕ → Type 0 = λ x. buffer ≡ take at x ++ (lead ++ drop (at + length lead) x) in
     let over = lent old.len buffer old.items same old.ok.0 ∙ subst P c.as_mut_slice.ensures.value c.put_over.ensures in
     wrapped_done w.0 w.1 (text (value_tree c.args.node)) lead c.append_opening.new.out.items old.items _ at c.in_ok-to.to c.in_ok-at.ensures.text.1 w.2 w.3 put.0 put.1 over
-    c.args.level c.args.out.now.items c.append_closing.new.out.items c.args.end c.append_closing.result c.requires.buffer c.in_ok-at.ensures.text.0 c.append_closing.ensures
+    c.args.level c.args.out.now.items c.append_closing.new.out.items c.args.end c.append_closing.result (omega arith) c.in_ok-at.ensures.text.0 c.append_closing.ensures
