@@ -1,7 +1,7 @@
 -- Texts of numbers and dates: no byte of them has a meaning of its own in JSON, but for the colons of a date, which is in a string.
 use Rattle.std.proofs.Common.{◌≡◌, ℕ, zero, suc, ◌+◌, ◌-◌, ◌/◌, ◌%◌, ◌==◌, ◌<◌, ◌≤◌, Bool, true, false, List, [], ◌∷◌, ◌++◌, ◌^◌, append_assoc, length, take, drop, refl, sym, ap, ◌∙◌, subst, arith, ℤ, pos, negsuc}
 use Rattle.std.specs.Float.{Ieee.of_bits, binary64}
-use Rattle.std.specs.Prelude.{if◌then◌else◌, nat_lt, nat_le, unsigned_abs, ◌||◌, codes, decimal}
+use Rattle.std.specs.Prelude.{if◌then◌else◌, nat_lt, nat_le, unsigned_abs, int_le, neg_ℤ, ◌&&◌, ◌||◌, codes, decimal}
 use Rattle.std.specs.{List.list_any, Fmt.digit_glyph, Fmt.digits, Fmt.digits_onto, Fmt.signed_decimal, Fmt.sign_text, Str.Parse.AllDigits}
 use Rattle.std.proofs.lemmas.Bool.{or_parts, or_from, lt-ltb, ne_eqb, le-ltb}
 use Rattle.std.proofs.lemmas.List.Folds.{list_any-append}
@@ -9,13 +9,13 @@ use Rattle.std.proofs.lemmas.List.{take-append-drop, length-append}
 use Rattle.std.proofs.lemmas.Str.Parse.{digit_from_value}
 use Rattle.bd_extjson_text.specs.Text.{needs_escape, escape_byte, quoted, wrapper_text}
 use Rattle.bd_extjson_text.proofs.JsonStringLemmas.{escaped-plain}
-use Rattle.bd_wide_number.specs.Decimal128.{five_bits, coefficient_of, biased_exponent}
+use Rattle.bd_wide_number.specs.Decimal128.{five_bits, coefficient_of}
 use Rattle.jiff_core.specs.declared.civil.date.Date.{Date}
 use Rattle.jiff_core.specs.Calendar.{IsYear}
 use Rattle.jiff_core.proofs.SignedLemmas.{signed_arith}
 use Rattle.jiff_core.proofs.CalendarLemmas.{days_in_month_bounds}
 use Rattle.bd_wide_dump.specs.RelaxedDate.{day_text, two, four, fraction_text, seconds_text, time_text, instant_text, dated_text}
-use Rattle.bd_wide_text.specs.{Decimal128.decimal128_text, Decimal128.decimal128_size, Decimal128.scientific_string, Decimal128.power_text}
+use Rattle.bd_wide_text.specs.Decimal128.{adjusted_exponent, decimal128_size, decimal128_text, exponent_of, power_text, scientific_string}
 use Rattle.bd_wide_text.specs.Double.{IsDoubleText, IsTextOf, laid_out, padded, plain}
 use Rattle.bd_wide_text.specs.Layout.{mantissa, zeros}
 use lib.Ieee.{Float, nan, inf, fin}
@@ -148,23 +148,25 @@ double_bare bits text is = double_is (of_bits binary64 bits) text is
 
 -- ---- decimal128
 
-power_bare : (sum : ℕ) → Unbroken (power_text sum)
-power_bare sum = either (nat_lt sum 6177) (codes "E-" ++ decimal (6177 - sum)) (codes "E+" ++ decimal (sum - 6177)) (decimal_unbroken (6177 - sum)) (decimal_unbroken (sum - 6177))
+power_bare : (power : ℤ) → Unbroken (power_text power)
+power_bare (pos n) = decimal_unbroken n
+power_bare (negsuc k) = decimal_unbroken (k + 1)
 
-scientific_bare : (ds : List ℕ) (biased : ℕ) → Unbroken ds → Unbroken (scientific_string ds biased)
+scientific_bare : (ds : List ℕ) (exponent : ℤ) → Unbroken ds → Unbroken (scientific_string ds exponent)
 unfolding scientific_string
-scientific_bare ds biased h =
-    let sum = biased + length ds in
-    let shift = 6176 - biased in
-    let p = parts (length ds - shift) ds h in
-    either (nat_lt 6176 biased || nat_lt sum 6171) (mantissa ds ++ power_text sum) _ (both (mantissa ds) (power_text sum) (mantissa_bare ds h) (power_bare sum))
-    (either (biased == 6176) ds _ h
-    (either (nat_lt shift (length ds)) (take (length ds - shift) ds ++ (codes "." ++ drop (length ds - shift) ds)) (codes "0." ++ (zeros (shift - length ds) ++ ds))
-    (both (take (length ds - shift) ds) (codes "." ++ drop (length ds - shift) ds) p.0 p.1) (both (zeros (shift - length ds)) ds (zeros_bare (shift - length ds)) h)))
+scientific_bare ds exponent h =
+    let power = adjusted_exponent ds exponent in
+    let places = unsigned_abs exponent in
+    let p = parts (length ds - places) ds h in
+    either (int_le exponent (pos 0) && int_le (neg_ℤ (pos 6)) power) _ (mantissa ds ++ power_text power)
+    (either (places == 0) ds _ h
+    (either (nat_lt places (length ds)) (take (length ds - places) ds ++ (codes "." ++ drop (length ds - places) ds)) (codes "0." ++ (zeros (places - length ds) ++ ds))
+    (both (take (length ds - places) ds) (codes "." ++ drop (length ds - places) ds) p.0 p.1) (both (zeros (places - length ds)) ds (zeros_bare (places - length ds)) h)))
+    (both (mantissa ds) (power_text power) (mantissa_bare ds h) (power_bare power))
 
 size_bare : (low high : ℕ) → Unbroken (decimal128_size low high)
 unfolding decimal128_size
-size_bare low high = either (five_bits high == 30) (codes "Infinity") _ refl (scientific_bare (decimal (coefficient_of low high)) (biased_exponent high) (decimal_unbroken (coefficient_of low high)))
+size_bare low high = either (five_bits high == 30) (codes "Infinity") _ refl (scientific_bare (decimal (coefficient_of low high)) (exponent_of high) (decimal_unbroken (coefficient_of low high)))
 
 decimal128_bare : (low high : ℕ) → Unbroken (decimal128_text low high)
 unfolding decimal128_text

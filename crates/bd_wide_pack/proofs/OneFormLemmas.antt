@@ -1,5 +1,5 @@
 -- Each decimal128 has one form with its text and its value, and the value of a double is NaN if the double is.
-use Rattle.std.proofs.Common.{◌≡◌, ◌<◌, ℕ, zero, suc, ◌+◌, ◌*◌, ◌/◌, ◌%◌, ◌^◌, ◌==◌, Bool, true, false, cond, ◌++◌, leb, refl, sym, ap, ◌∙◌, inl, inr, arith, ne_eqb, eq-eqb, decimal}
+use Rattle.std.proofs.Common.{◌≡◌, ◌<◌, ℕ, zero, suc, ◌+◌, ◌*◌, ◌/◌, ◌%◌, ◌^◌, ◌==◌, pos, ◌-ℤ◌, Bool, true, false, cond, ◌++◌, leb, refl, sym, ap, ◌∙◌, inl, inr, arith, ne_eqb, eq-eqb, decimal}
 use Rattle.std.proofs.lemmas.Bool.{cases_eq, cases_lt, eqb-true}
 use Rattle.std.proofs.lemmas.Nat.{shr-shr}
 use borrow.Author.Tests.{lt-leb, le-leb}
@@ -10,7 +10,7 @@ use Rattle.bd_wide_number.specs.Decimal128.{five_bits, coefficient_of, biased_ex
 use Rattle.bd_wide_number.specs.Value as worths
 use Rattle.bd_wide_number.specs.Value.{decimal128_value, double_value, finite, has_sign}
 use Rattle.bd_wide_number.proofs.CodeLemmas.{nan_is}
-use Rattle.bd_wide_text.specs.Decimal128.{decimal128_size, decimal128_text, scientific_string}
+use Rattle.bd_wide_text.specs.Decimal128.{decimal128_size, decimal128_text, exponent_of, scientific_string}
 use Rattle.bd_wide_read.specs.DecimalText.{IsCanonical, high_half}
 use Rattle.bd_wide_read.proofs.DecimalTextLemmas.{coefficient_below}
 
@@ -56,7 +56,7 @@ pub record HasForm (low high : ℕ) : Type 0 where
   pub text : decimal128_text low high ≡ decimal128_text lower upper
   pub value : decimal128_value low high ≡ decimal128_value lower upper
 
-finite_text : (low high : ℕ) → five_bits high < 30 → decimal128_text low high ≡ sign_text (leb (2 ^ 63) high) ++ scientific_string (decimal (coefficient_of low high)) (biased_exponent high)
+finite_text : (low high : ℕ) → five_bits high < 30 → decimal128_text low high ≡ sign_text (leb (2 ^ 63) high) ++ scientific_string (decimal (coefficient_of low high)) (exponent_of high)
 unfolding decimal128_text decimal128_size
 finite_text low high h = rw (ne_eqb (five_bits high) 31 (λ e. omega arith), ne_eqb (five_bits high) 30 (λ e. omega arith)) refl
 
@@ -103,7 +103,7 @@ finite_form low high h =
       low_fits = omega arith;
       high_fits = p.4;
       canonical = inl (p.0, below);
-      text = finite_text low high h ∙ (λ i. sign_text (sym p.3 i) ++ scientific_string (decimal (sym same_c i)) (sym same_b i)) ∙ sym (finite_text m n inside);
+      text = finite_text low high h ∙ (λ i. sign_text (sym p.3 i) ++ scientific_string (decimal (sym same_c i)) (pos (sym same_b i) -ℤ pos 6176)) ∙ sym (finite_text m n inside);
       value = finite_value low high h ∙ (λ i. finite (sym p.3 i) (sym same_c i * 10 ^ sym same_b i)) ∙ sym (finite_value m n inside);
     }
 

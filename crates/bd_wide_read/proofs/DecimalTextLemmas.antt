@@ -16,7 +16,9 @@ use Rattle.std.specs.Float.Numeral.{Parts, scan_numeral, numeral_digits, tens_up
 use Rattle.fast_float.proofs.Rows.{AllDigits-take, AllDigits-drop, AllDigits-append}
 use Rattle.bd_wide_number.specs.Decimal128.{five_bits, coefficient_of, biased_exponent}
 use Rattle.bd_wide_text.specs.Layout.{mantissa, zeros}
-use Rattle.bd_wide_text.specs.Decimal128.{decimal128_size, decimal128_text, power_text, scientific_string}
+use Rattle.bd_wide_text.specs.Decimal128.{decimal128_size, decimal128_text, exponent_of, scientific_string}
+use Rattle.bd_wide_text.specs.inside.BiasedText.{biased_power_text, biased_string}
+use Rattle.bd_wide_text.proofs.Decimal128Lemmas.{biased_is, size_is as text_size_is}
 use Rattle.bd_wide_read.specs.declared.fault.TextFault.{TextFault}
 use Rattle.bd_wide_read.specs.declared.fault.TextFault.TheVariants.{BadText, OutOfRange}
 use Rattle.bd_wide_read.specs.DecimalText.{number, IsCanonical, IsExact, IsRead, IsWorth, high_half, is_numeral, numeric_of, scaled_of, size_of}
@@ -103,8 +105,8 @@ value_zeros (suc n) = value_zeros n
 value_after_zeros : (n : ℕ) (digits : List ℕ) → digits_value 10 (48 ∷ (zeros n ++ digits)) ≡ digits_value 10 digits
 value_after_zeros n digits = value_append (zeros n) digits 0 ∙ ap (λ (v : ℕ). digits_value_after 10 v digits) (value_zeros n)
 
-layout_text : (digits : List ℕ) (b : ℕ) → AllDigits 10 digits → 0 < length digits → length digits ≤ 40 → b < 2 ^ 14 → IsText (scientific_string digits b) (digits_value 10 digits) b
-unfolding scientific_string
+layout_text : (digits : List ℕ) (b : ℕ) → AllDigits 10 digits → 0 < length digits → length digits ≤ 40 → b < 2 ^ 14 → IsText (biased_string digits b) (digits_value 10 digits) b
+unfolding biased_string
 layout_text digits b all some few inside = elim (cases_lt 6176 b) [
   | inl far ↦ rw (lt-ltb 6176 b far, le-ltb (b + length digits) 6177 (omega arith)) (scientific_text digits false (b + length digits - 6177) b all some (omega arith) (omega arith))
   | inr near ↦ elim (cases_lt (b + length digits) 6171) [
@@ -190,16 +192,17 @@ high_is low high l h =
     ]
 
 finite_text : (low high : ℕ) → five_bits high < 24 → high % 2 ^ 49 * 2 ^ 64 + low < 10 ^ 34 → IsText (decimal128_size low high) (high % 2 ^ 49 * 2 ^ 64 + low) (high / 2 ^ 49 % 2 ^ 14)
-unfolding decimal128_size
 finite_text low high five few =
     let c = high % 2 ^ 49 * 2 ^ 64 + low in
     let b = high / 2 ^ 49 % 2 ^ 14 in
     let wide : c < 10 ^ 64 = omega arith in
     let numeral = decimal_is_IsNumeral_wide c wide in
     let short : length (decimal c) ≤ 34 = length-decimal-le_wide 34 c (omega arith) few wide in
-    let is : IsText (scientific_string (decimal c) b) c b =
-    subst (λ (n : ℕ). IsText (scientific_string (decimal c) b) n b) numeral.1 (layout_text (decimal c) b numeral.0.1 numeral.0.0 (omega arith) (omega arith)) in
-    rw (ne_eqb (five_bits high) 30 (λ e. omega arith), coefficient_is low high five few, exponent_is high five) is
+    let is : IsText (biased_string (decimal c) b) c b =
+    subst (λ (n : ℕ). IsText (biased_string (decimal c) b) n b) numeral.1 (layout_text (decimal c) b numeral.0.1 numeral.0.0 (omega arith) (omega arith)) in
+    let finite : (five_bits high == 30) ≡ false = ne_eqb (five_bits high) 30 (λ e. omega arith) in
+    let size = text_size_is low high c b (decimal c) finite refl (sym (coefficient_is low high five few)) (sym (exponent_is high five)) numeral.0.0 in
+    subst (λ (t : List ℕ). IsText t c b) size is
 
 finite_means : (low high : ℕ) → five_bits high < 24 → high % 2 ^ 49 * 2 ^ 64 + low < 10 ^ 34
     → numeric_of (decimal128_text low high) ≡ number (leb (2 ^ 63) high) (scaled (high % 2 ^ 49 * 2 ^ 64 + low) (high / 2 ^ 49 % 2 ^ 14) 0)
@@ -294,20 +297,20 @@ mantissa_unquoted ds all =
       | false ↦ refl
     ])
 
-power_unquoted : (sum : ℕ) → sum < 2 ^ 60 → IsUnquoted (power_text sum)
+power_unquoted : (sum : ℕ) → sum < 2 ^ 60 → IsUnquoted (biased_power_text sum)
 power_unquoted sum small =
     elim (ltb sum 6177) as (λ b. IsUnquoted (cond b (69 ∷ 45 ∷ decimal (6177 - sum)) (69 ∷ 43 ∷ decimal (sum - 6177)))) [
       | true ↦ decimal_unquoted (6177 - sum) (omega arith)
       | false ↦ decimal_unquoted (sum - 6177) (omega arith)
     ]
 
-string_unquoted : (ds : List ℕ) (b : ℕ) → AllDigits 10 ds → b + length ds < 2 ^ 60 → IsUnquoted (scientific_string ds b)
-unfolding scientific_string
+string_unquoted : (ds : List ℕ) (b : ℕ) → AllDigits 10 ds → b + length ds < 2 ^ 60 → IsUnquoted (biased_string ds b)
+unfolding biased_string
 string_unquoted ds b all small =
     let n = 6176 - b in
-    elim (ltb 6176 b || ltb (b + length ds) 6171) as (λ x. IsUnquoted (cond x (mantissa ds ++ power_text (b + length ds))
+    elim (ltb 6176 b || ltb (b + length ds) 6171) as (λ x. IsUnquoted (cond x (mantissa ds ++ biased_power_text (b + length ds))
     (cond (b == 6176) ds (cond (ltb n (length ds)) (take (length ds - n) ds ++ (46 ∷ drop (length ds - n) ds)) (48 ∷ 46 ∷ (zeros (n - length ds) ++ ds)))))) [
-      | true ↦ both_unquoted (mantissa ds) (power_text (b + length ds)) (mantissa_unquoted ds all) (power_unquoted (b + length ds) small)
+      | true ↦ both_unquoted (mantissa ds) (biased_power_text (b + length ds)) (mantissa_unquoted ds all) (power_unquoted (b + length ds) small)
       | false ↦ elim (b == 6176) as (λ x. IsUnquoted (cond x ds (cond (ltb n (length ds)) (take (length ds - n) ds ++ (46 ∷ drop (length ds - n) ds)) (48 ∷ 46 ∷ (zeros (n - length ds) ++ ds))))) [
         | true ↦ digits_unquoted ds all
         | false ↦ elim (ltb n (length ds)) as (λ x. IsUnquoted (cond x (take (length ds - n) ds ++ (46 ∷ drop (length ds - n) ds)) (48 ∷ 46 ∷ (zeros (n - length ds) ++ ds)))) [
@@ -345,9 +348,10 @@ size_unquoted low high =
     let few : c < 10 ^ 34 = coefficient_below low high in
     let wide : c < 10 ^ 64 = omega arith in
     let short : length (decimal c) ≤ 34 = length-decimal-le_wide 34 c (omega arith) few wide in
-    elim (five_bits high == 30) as (λ x. IsUnquoted (cond x (codes "Infinity") (scientific_string (decimal c) (biased_exponent high)))) [
+    let numeral = decimal_is_IsNumeral_wide c wide in
+    elim (five_bits high == 30) as (λ x. IsUnquoted (cond x (codes "Infinity") (scientific_string (decimal c) (exponent_of high)))) [
       | true ↦ refl
-      | false ↦ string_unquoted (decimal c) (biased_exponent high) (decimal_is_IsNumeral_wide c wide).0.1 (omega (arith, exponent_small high))
+      | false ↦ subst IsUnquoted (sym (biased_is (decimal c) (biased_exponent high) numeral.0.0)) (string_unquoted (decimal c) (biased_exponent high) numeral.0.1 (omega (arith, exponent_small high)))
     ]
 
 sign_unquoted : (s : Bool) → IsUnquoted (sign_text s)

@@ -1,1 +1,2 @@
+pub mod BiasedText
 pub mod LaidOutAnew

@@ -2,7 +2,8 @@
 
 ghost use Rattle.std.specs.Prelude.{◌≡◌, ◌<◌, ◌≤◌, ◌^◌, ◌++◌, length, OnErr, OnOk};
 ghost use Rattle.std.specs.Io.{StartsWith};
-ghost use Rattle.bd_wide_text.specs.Decimal128.{decimal128_size, decimal128_text, power_text, scientific_string};
+ghost use Rattle.bd_wide_text.specs.Decimal128.{decimal128_size, decimal128_text};
+ghost use Rattle.bd_wide_text.specs.inside.BiasedText.{biased_power_text, biased_string};
 
 use crate::layout::{write_mantissa, write_zeros};
 use bd_value::NoMemory;
@@ -40,12 +41,12 @@ fn write_size(low: u64, high: u64, out: &mut Vec<u8>) -> Result<(), NoMemory>
 }
 
 /// Appends the number with these digits, times the power of ten that is 6176 below `biased`.
-#[tactic(auto, using(bd_value::proofs::PrefixLemmas::prefixes), unfolding(crate::specs::Decimal128::scientific_string))]
+#[tactic(auto, using(bd_value::proofs::PrefixLemmas::prefixes), unfolding(crate::specs::inside::BiasedText::biased_string))]
 fn write_scientific_string(digits: &[u8], biased: usize, out: &mut Vec<u8>) -> Result<(), NoMemory>
     requires digits { (0 < length digits.now) × (length digits.now ≤ 40) }
     requires biased { biased < 2 ^ 14 }
     ensures ok { OnOk result
-        (out.new.items ≡ out.old.items ++ scientific_string digits.now biased) }
+        (out.new.items ≡ out.old.items ++ biased_string digits.now biased) }
     ensures prefix { OnErr result (StartsWith out.new.items out.old.items) }
 {
     let sum = biased + digits.len();
@@ -72,7 +73,7 @@ fn write_scientific_string(digits: &[u8], biased: usize, out: &mut Vec<u8>) -> R
 #[tactic(auto, using(bd_value::proofs::PrefixLemmas::prefixes))]
 fn write_power(sum: usize, out: &mut Vec<u8>) -> Result<(), NoMemory>
     requires { sum < 2 ^ 15 }
-    ensures ok { OnOk result (out.new.items ≡ out.old.items ++ power_text sum) }
+    ensures ok { OnOk result (out.new.items ≡ out.old.items ++ biased_power_text sum) }
     ensures prefix { OnErr result (StartsWith out.new.items out.old.items) }
 {
     let mut buffer = Buffer::new();
