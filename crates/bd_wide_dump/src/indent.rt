@@ -29,7 +29,7 @@ use bd_extjson_text::{End, VALUE, append_few, append_name, append_node, append_s
 use bd_value::Kind;
 
 /// More space than a brace and the line end after it take.
-const ROOM: usize = 2 * BLOCK + 1;
+const OPENING: usize = 2 * BLOCK + 1;
 
 /// How few brackets are open where the text of binary data is written at once.
 const SHALLOW: usize = 14;
@@ -307,7 +307,7 @@ fn indent_string(
 ) -> End
     requires wrapper { IsWrapped lead.now (text (value_tree node)) }
     requires level { level ≤ longest_input }
-    requires buffer { end + ROOM ≤ length out.old.items }
+    requires buffer { end + OPENING ≤ length out.old.items }
     ensures { Appends out.old.items end result out.new.items
         (laid_out Outside level 0 (text (value_tree node.entry))) }
 {
@@ -346,7 +346,7 @@ fn indent_date(bytes: &[u8], start: usize, level: usize, out: &mut Vec<u8>, end:
     requires inside { start ≤ length bytes.now }
     requires date { (s : trees.Scalar) × IsDateAt s (drop start bytes.now) }
     requires level { level ≤ longest_document }
-    requires buffer { end + ROOM ≤ length out.old.items }
+    requires buffer { end + OPENING ≤ length out.old.items }
     ensures { (s : trees.Scalar) → IsDateAt s (drop start bytes.now) →
         Appends out.old.items end result out.new.items (laid_out Outside level 0 (scalar_text s)) }
 {
@@ -446,7 +446,7 @@ fn indent_double(
 ) -> End
     requires value { 8 ≤ length (drop start bytes.now) }
     requires level { level ≤ longest_document }
-    requires buffer { end + ROOM ≤ length out.old.items }
+    requires buffer { end + OPENING ≤ length out.old.items }
     ensures text { IfOk result (λ e. AppendsBy (IsLaid level
         (IsNumberText format as_double (drop start bytes.now))) out.old.items end e
         out.new.items) }
@@ -463,7 +463,7 @@ fn indent_double(
 /// Appends a double in its wrapper.
 fn indent_wrapped(bits: u64, level: usize, out: &mut Vec<u8>, end: usize) -> End
     requires level { level ≤ longest_document }
-    requires buffer { end + ROOM ≤ length out.old.items }
+    requires buffer { end + OPENING ≤ length out.old.items }
     ensures text { IfOk result (λ e.
         AppendsBy (IsLaid level (IsDoubleIn false bits)) out.old.items end e out.new.items) }
     ensures err { OnErr result (take end out.new.items ≡ take end out.old.items) }
@@ -517,7 +517,7 @@ fn append_label(later: bool, level: usize, name: &str, out: &mut Vec<u8>, end: u
 #[inline(always)]
 fn append_opening(level: usize, out: &mut Vec<u8>, end: usize) -> End
     requires level { level ≤ longest_input }
-    requires buffer { end + ROOM ≤ length out.old.items }
+    requires buffer { end + OPENING ≤ length out.old.items }
     ensures text { Appends out.old.items end result out.new.items (123 ∷ line_end (level + 1)) }
     ensures capacity { IfOk result (λ e. e + VALUE ≤ length out.new.items) }
 {
