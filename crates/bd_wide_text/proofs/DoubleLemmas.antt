@@ -106,7 +106,7 @@ by_digits (fin t zero e) s p new is laid h = absurd (omega arith)
 by_digits (fin t (suc m) e) s p new is (inl none) h = absurd (not_zero s t m e (digits_of p * 10 ^ tens_up p) (10 ^ tens_down p) (ten_to_pos (tens_down p)) (ap (λ n. n * 10 ^ tens_up p) none ∙ omega arith) is)
 by_digits (fin t (suc m) e) s p new is (inr h) sized = (s, h.0, h.1, h.2, h.3 s ∙ is, ap (λ x. sign_text s ++ x) h.4)
 
-first_digit : (p : Parts) → IsPlain p → (get_or (text_of p) 0 0 == 45) ≡ false
+pub first_digit : (p : Parts) → IsPlain p → (get_or (text_of p) 0 0 == 45) ≡ false
 first_digit p plain =
     let back = cond p.point (46 ∷ p.fraction) [] ++ exponent_text p.exponent_negative p.exponent in
     let r = digit_at p.whole 0 plain.well_formed.whole_digits plain.whole in

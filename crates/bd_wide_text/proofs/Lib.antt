@@ -1,3 +1,5 @@
+pub mod CutLemmas
+pub mod CutTextLemmas
 pub mod Decimal128Lemmas
 pub mod DoubleLemmas
 pub mod LayoutLemmas

@@ -1,39 +1,40 @@
 -- The text from `ryu` for a double above 0.0001 and below 1,000,000 is its text.
-use Rattle.std.proofs.Common.{◌≡◌, ◌≢◌, ◌<◌, ◌≤◌, ℕ, zero, suc, ◌+◌, ◌-◌, ◌*◌, ◌/◌, ◌%◌, ◌^◌, ◌==◌, ◌||◌, ◌&&◌, Bool, true, false, cond, not, T, IsTrue, List, [], ◌∷◌, ◌++◌, length, take, drop, get_or, refl, sym, ap, ◌∙◌, subst, inl, inr, arith, true≢false, length-append, length-drop, take-add, ltb, eqb, leb, ne_eqb, Some}
+use Rattle.std.proofs.Common.{◌≡◌, ◌≢◌, ◌<◌, ◌≤◌, ℕ, zero, suc, ◌+◌, ◌-◌, ◌*◌, ◌/◌, ◌%◌, ◌^◌, ◌==◌, ◌||◌, ◌&&◌, Bool, true, false, cond, not, T, List, [], ◌∷◌, ◌++◌, length, take, drop, get_or, refl, sym, ap, ◌∙◌, subst, inl, inr, arith, true≢false, length-append, length-drop, append_assoc, take-add, ltb, eqb, ne_eqb, Some}
 use Rattle.std.proofs.lemmas.Bool.{cases_lt}
 use Rattle.std.proofs.lemmas.Float.{not_nan_f64_bits}
 use Rattle.std.proofs.lemmas.Int.Digits.{digits_value-lt}
-use Rattle.std.proofs.lemmas.List.{drop_more, get_or_append_left, length-take-le, take-take, take_at, drop_at}
+use Rattle.std.proofs.lemmas.List.{drop_more, get_or_append_left, get_or-append-add, length-take-le, take-take, take_at, drop_at}
 use Rattle.std.proofs.lemmas.Slice.{take-put_mid}
 use borrow.Rule.Slice.PartMut.{put_mid}
-use Rattle.std.proofs.lemmas.Str.Parse.{digit_at, digits_value-take-le}
-use Rattle.std.proofs.Math.Nat.{mul-one, eq-zero-or-pos, mul-le-mul_right, le_of_mul-le-mul_right}
+use Rattle.std.proofs.lemmas.Str.Parse.{digit_at}
+use Rattle.std.proofs.Math.Nat.{mul-one, pow-le-pow_right, eq-zero-or-pos, mul-le-mul_right, le_of_mul-le-mul_right}
 use borrow.Author.Tests.{le-ltb, le-leb}
 use Rattle.std.specs.Fmt.{sign_text, decimal}
 use Rattle.std.specs.Str.Parse.{digits_value, AllDigits}
-use Rattle.std.specs.Float.{binary64, float_is_finite}
+use Rattle.std.specs.Float.{binary64}
 use Rattle.std.specs.Float.Parse.{parse_float}
+use lib.Dec.{lit<}
 use lib.Pow.{pow_pos}
-use lib.Ieee.{Float, nan, inf, fin, Format, prec, emax, low, up, down, odd, units, round, neg, le, is_nan, nan_bits, of_bits, top}
+use lib.Ieee.{Float, nan, inf, fin, Format, prec, emax, low, up, down, odd, units, round, neg, le, is_nan, of_bits}
 use lib.Ieee.Bits.{nan_bits_is}
 use lib.Ieee.Exact.{HasValue, odd_sign}
 use lib.Ieee.Fits.{down_pos, round_is}
 use lib.Ieee.Order.{round_mono, transfer}
 use Rattle.fast_float.specs.Text.{Parts, digits_of, tens_up, tens_down, nearest, scan}
-use Rattle.fast_float.proofs.DigitsLemmas.{digits_value-append, is_digit}
 use Rattle.fast_float.proofs.ExactLemmas.{ten_to_pos}
 use Rattle.fast_float.proofs.Extremes.{tens_le}
 use Rattle.fast_float.proofs.Patterns.{of_bits_value, field_units, neg-round}
-use Rattle.fast_float.proofs.Rows.{AllDigits-append, AllDigits-drop, front_large}
+use Rattle.fast_float.proofs.Rows.{AllDigits-append, AllDigits-drop}
 use Rattle.ryu.specs.Plain.{IsLaidOutNumber}
 use Rattle.ryu.proofs.Signs.{parts as sign_parts}
 use Rattle.bd_wide_number.specs.Value.{magnitude, spelled}
 use Rattle.bd_wide_number.proofs.ValueLemmas.{rises}
 use Rattle.bd_wide_text.specs.Double.{IsTextOf, IsDoubleText}
 use Rattle.bd_wide_text.specs.Layout.{zeros}
+use Rattle.bd_wide_text.specs.inside.Cut.{HasNone, IsShort}
 use Rattle.bd_wide_text.specs.inside.LaidOutAnew.{AreParts, IsLaidOutAnew, IsMiddling, IsSized, AreZerosBefore, AreZerosAfter, small_text, large_text}
-use Rattle.bd_wide_text.proofs.DoubleLemmas.{by_digits, sized, parts_of, nearest_of}
-use Rattle.bd_wide_text.proofs.LayoutLemmas.{AreNear, near, nothing, small, small_value, large, short_exponent, far_digits, value_decimal}
+use Rattle.bd_wide_text.proofs.DoubleLemmas.{by_digits, first_digit, sized, parts_of, nearest_of}
+use Rattle.bd_wide_text.proofs.LayoutLemmas.{near, nothing, small, small_value, large, short_exponent, far_first, leading_large, above_zero, whole_is, value_decimal}
 
 -- ---- a double without its sign
 
@@ -141,13 +142,7 @@ not_below b n d large finite some is tiny =
     let less = rises 0x3F1A_36E2_EB1C_432D b large in
     omega arith
 
--- ---- the size of a number by its digits
-
-leading_large : (ds : List ℕ) → AllDigits 10 ds → 0 < length ds → 48 < get_or ds 0 0 → 10 ^ (length ds - 1) ≤ digits_value 10 ds
-leading_large ds all some first =
-    let r = digit_at ds 0 all some in
-    let digit = (is_digit (get_or ds 0 0) r.0 (omega (arith, r.1))).1 in
-    omega (arith, front_large ds 0 (length ds) some (omega arith) (omega arith), digits_value-take-le 10 ds (length ds) (omega arith))
+-- ---- the zeros before and after digits
 
 zeros_first : (ds : List ℕ) → (count : ℕ) × AreZerosBefore ds count
 zeros_first [] = (0, record { within = omega arith; zeros_are = refl; next = λ l. absurd (omega arith) })
@@ -194,9 +189,79 @@ as_it_is_small size fraction count few = rw (le-leb count 3 few) refl
 as_it_is_large : (size whole fraction : List ℕ) (count : ℕ) → length whole ≤ 6 → large_text size whole fraction count ≡ size
 as_it_is_large size whole fraction count few = rw (le-leb (length whole) 6 few) refl
 
+-- ---- a short text has 17 digits at most
+
+few_in : (ds : List ℕ) → AllDigits 10 ds → length ds ≤ 17 → digits_value 10 ds < 10 ^ 17
+few_in ds all few =
+    let most : 10 ^ length ds ≤ 10 ^ 17 = pow-le-pow_right (lit< tt) {j = 17} few in
+    omega (arith, digits_value-lt 10 ds all)
+
+one_at_most : (b : Bool) → cond b 1 0 ≤ 1
+one_at_most true = omega arith
+one_at_most false = omega arith
+
+short_size : (s : Bool) (text size : List ℕ) → text ≡ sign_text s ++ size → (get_or size 0 0 == 45) ≡ false → length text ≤ 18 + cond (get_or text 0 0 == 45) 1 0 → length size ≤ 18
+short_size true text size is other few = omega (arith, ap (λ t. length t) is, one_at_most (get_or text 0 0 == 45), few)
+short_size false text size is other few =
+    let none : (get_or text 0 0 == 45) ≡ false = ap (λ t. get_or t 0 0 == 45) is ∙ other in
+    omega (arith, ap (λ t. length t) is, subst (λ (b : Bool). length text ≤ 18 + cond b 1 0) none few)
+
+-- the bytes at the front that are no digit other than 0 end at the latest where one comes
+none_beyond : (front back text : List ℕ) (k count : ℕ) → text ≡ front ++ back → HasNone text count → 48 < get_or back k 0 → count ≤ length front + k
+none_beyond front back text k count is none some = elim (cases_lt (length front + k) count) [
+  | inr few ↦ few
+  | inl more ↦
+      let at : get_or text (length front + k) 0 ≡ get_or back k 0 = ap (λ t. get_or t (length front + k) 0) is ∙ get_or-append-add front back k 0 in
+      absurd (omega (arith, none (length front + k) more))
+]
+
+module _ (s : Bool) (text size : List ℕ) (p : Parts) (parts : AreParts size p) (is : text ≡ sign_text s ++ size) (none : p.exponent ≡ []) where
+  long : length size ≡ length p.whole + (1 + length p.fraction)
+  long = omega (arith, ap (λ t. length t) (near size p parts none).text, length-append p.whole (46 ∷ p.fraction))
+
+  as_long : length text ≡ length (sign_text s) + length size
+  as_long = ap (λ t. length t) is ∙ length-append (sign_text s) size
+
+  few_long : length size ≤ 18 → digits_of p < 10 ^ 17
+  few_long few =
+      let w = parts.plain.well_formed in
+      few_in (p.whole ++ p.fraction) (AllDigits-append p.whole p.fraction w.whole_digits w.fraction_digits) (omega (arith, long, length-append p.whole p.fraction))
+
+  few_large : (count : ℕ) → HasNone text count → length text ≤ 17 + count → 48 < get_or p.whole 0 0 → digits_of p < 10 ^ 17
+  few_large count zeros_are few more =
+      let first : get_or size 0 0 ≡ get_or p.whole 0 0 = ap (λ t. get_or t 0 0) (near size p parts none).text ∙ get_or_append_left p.whole (46 ∷ p.fraction) 0 0 parts.plain.whole in
+      few_long (omega (arith, as_long, none_beyond (sign_text s) size text 0 count is zeros_are (omega arith)))
+
+  few_small : (count : ℕ) → HasNone text count → length text ≤ 17 + count → get_or p.whole 0 0 ≡ 48 → digits_of p < 10 ^ 17
+  few_small count zeros_are few first =
+      let front = sign_text s ++ (48 ∷ 46 ∷ []) in
+      let whole = whole_is size p parts first in
+      let splits : text ≡ front ++ p.fraction =
+      is ∙ ap (λ t. sign_text s ++ t) ((near size p parts none).text ∙ ap (λ w. w ++ (46 ∷ p.fraction)) whole) ∙ sym (append_assoc (sign_text s) (48 ∷ 46 ∷ []) p.fraction) in
+      let found = zeros_first p.fraction in
+      let n = found.0 in
+      let rest = drop n p.fraction in
+      let fraction_digits = parts.plain.well_formed.fraction_digits in
+      let all = length-append front p.fraction in
+      let as_text : length text ≡ length (front ++ p.fraction) = ap (λ t. length t) splits in
+      let most : length rest ≤ 17 = elim (cases_lt n (length p.fraction)) [
+        | inr beyond ↦ omega (arith, length-drop n p.fraction)
+        | inl inside ↦ omega (arith, length-drop n p.fraction, none_beyond front p.fraction text n count splits zeros_are (above_zero p.fraction n fraction_digits inside (found.1.next inside)))
+      ] in
+      omega (arith, small_value size p n parts first found.1, few_in rest (AllDigits-drop n p.fraction fraction_digits) most)
+
+  few_short : IsShort text → digits_of p < 10 ^ 17
+  few_short (inl few) = few_long (short_size s text size is first few) where
+    first : (get_or size 0 0 == 45) ≡ false
+    first = ap (λ t. get_or t 0 0 == 45) parts.text ∙ first_digit p parts.plain
+  few_short (inr h) = elim (cases_lt 48 (get_or p.whole 0 0)) [
+    | inl more ↦ few_large h.0 h.1 h.2 more
+    | inr most ↦ few_small h.0 h.1 h.2 (omega (arith, (digit_at p.whole 0 parts.plain.well_formed.whole_digits parts.plain.whole).0))
+  ]
+
 -- ---- a number with these parts that is above 0.0001 and below 1,000,000
 
-module _ (size : List ℕ) (p : Parts) (parts : AreParts size p) (big : 10 ^ 6 * 10 ^ tens_down p ≤ digits_of p * 10 ^ tens_up p → ⊥) (tiny : digits_of p * 10 ^ tens_up p * 10 ^ 4 ≤ 10 ^ tens_down p → ⊥) where
+module _ (size : List ℕ) (p : Parts) (parts : AreParts size p) (few : p.exponent ≡ [] → digits_of p < 10 ^ 17) (big : 10 ^ 6 * 10 ^ tens_down p ≤ digits_of p * 10 ^ tens_up p → ⊥) (tiny : digits_of p * 10 ^ tens_up p * 10 ^ 4 ≤ 10 ^ tens_down p → ⊥) where
   digits_are : AllDigits 10 (p.whole ++ p.fraction)
   digits_are = AllDigits-append p.whole p.fraction parts.plain.well_formed.whole_digits parts.plain.well_formed.fraction_digits
 
@@ -210,7 +275,7 @@ module _ (size : List ℕ) (p : Parts) (parts : AreParts size p) (big : 10 ^ 6 *
       let below : tens_down p ≡ length p.fraction + e = ap (λ b. length p.fraction + cond b (digits_value 10 p.exponent) 0) sign ∙ ap (λ n. length p.fraction + n) (ap (digits_value 10) written ∙ value_decimal e short) in
       let n : digits_of p * 10 ^ tens_up p ≡ digits_of p = ap (λ k. digits_of p * 10 ^ k) none ∙ mul-one (digits_of p) in
       let d : 10 ^ tens_down p ≡ 10 ^ (length p.fraction + e) = ap (λ k. 10 ^ k) below in
-      let l : 10 ^ length (p.whole ++ p.fraction) ≡ 10 ^ (1 + length p.fraction) = ap (λ k. 10 ^ k) (far_digits size p parts far).1 in
+      let l : 10 ^ length (p.whole ++ p.fraction) ≡ 10 ^ (1 + length p.fraction) = ap (λ k. 10 ^ k) (far_first size p parts far).1 in
       let ordered = tens_le 1 1 (1 + length p.fraction) 4 (length p.fraction + e) 0 (omega arith) (omega arith) in
       tiny (omega (arith, digits_value-lt 10 (p.whole ++ p.fraction) digits_are))
   no_power false sign far =
@@ -220,8 +285,8 @@ module _ (size : List ℕ) (p : Parts) (parts : AreParts size p) (big : 10 ^ 6 *
       let least : 16 ≤ e = subst (λ (b : Bool). (cond b 6 16) ≤ e) sign (parts.layout.far far).2 in
       let above : tens_up p ≡ e = ap (λ b. cond b 0 (digits_value 10 p.exponent)) sign ∙ ap (digits_value 10) written ∙ value_decimal e short in
       let below : tens_down p ≡ length p.fraction = ap (λ b. length p.fraction + cond b (digits_value 10 p.exponent) 0) sign ∙ omega arith in
-      let first : 48 < get_or (p.whole ++ p.fraction) 0 0 = (far_digits size p parts far).0.first in
-      let long = (far_digits size p parts far).1 in
+      let first : 48 < get_or (p.whole ++ p.fraction) 0 0 = (far_first size p parts far).0 in
+      let long = (far_first size p parts far).1 in
       let most = leading_large (p.whole ++ p.fraction) digits_are (omega arith) first in
       let l : 10 ^ (length (p.whole ++ p.fraction) - 1) ≡ 10 ^ length p.fraction = ap (λ k. 10 ^ k) {x = length (p.whole ++ p.fraction) - 1} {y = length p.fraction} (omega arith) in
       let n : digits_of p * 10 ^ tens_up p ≡ digits_of p * 10 ^ e = ap (λ k. digits_of p * 10 ^ k) above in
@@ -236,7 +301,7 @@ module _ (size : List ℕ) (p : Parts) (parts : AreParts size p) (big : 10 ^ 6 *
       let found = zeros_first p.fraction in
       let count = found.0 in
       let before = found.1 in
-      let laid = small size p count parts none first before in
+      let laid = small size p count parts (few none) none first before in
       elim (cases_lt 3 count) [
         | inr few ↦ subst (IsLaidOutAnew p) (as_it_is_small size p.fraction count few) laid
         | inl more ↦
@@ -255,7 +320,7 @@ module _ (size : List ℕ) (p : Parts) (parts : AreParts size p) (big : 10 ^ 6 *
       let is = near size p parts none in
       let other : get_or p.whole 0 0 ≢ 48 = λ e. omega arith in
       let found = zeros_last p.whole parts.plain.whole other in
-      let laid = large size p found.0 parts none found.1 other in
+      let laid = large size p found.0 parts (few none) none found.1 other in
       elim (cases_lt 6 (length p.whole)) [
         | inr few ↦ subst (IsLaidOutAnew p) (as_it_is_large size p.whole p.fraction found.0 few) laid
         | inl more ↦
@@ -285,8 +350,8 @@ middling_sized bits fits h =
     let high = h.1 in
     sized bits fits (λ e. omega arith) (λ e. omega arith) (λ e. omega arith) (λ e. omega arith) (omega arith)
 
-pub plain_text : (bits : ℕ) (text : List ℕ) → bits < 2 ^ 64 → IsMiddling bits → parse_float binary64 text ≡ Some (of_bits binary64 bits) → IsLaidOutNumber 16 4 text → length text ≤ 25 → IsDoubleText bits text
-plain_text bits text fits middling parses laid short =
+pub plain_text : (bits : ℕ) (text : List ℕ) → bits < 2 ^ 64 → IsMiddling bits → parse_float binary64 text ≡ Some (of_bits binary64 bits) → IsLaidOutNumber 16 4 text → length text ≤ 25 → IsShort text → IsDoubleText bits text
+plain_text bits text fits middling parses laid short short_is =
     let x = of_bits binary64 bits in
     let s = laid.0 in
     let size = laid.1 in
@@ -301,7 +366,7 @@ plain_text bits text fits middling parses laid short =
     let n = digits_of q * 10 ^ tens_up q in
     let d = 10 ^ tens_down q in
     let same : of_bits binary64 (bits % 2 ^ 63) ≡ round binary64 false n d = sym (bare_bits bits fits (omega arith)) ∙ ap bare (sym close) ∙ bare_round binary64 s n d in
-    let laid_out = plain_laid size q parts (not_above (bits % 2 ^ 63) n d high (ten_to_pos (tens_down q)) same) (not_below (bits % 2 ^ 63) n d low (omega arith) (ten_to_pos (tens_down q)) same) in
+    let laid_out = plain_laid size q parts (λ none. few_short s text size q parts is none short_is) (not_above (bits % 2 ^ 63) n d high (ten_to_pos (tens_down q)) same) (not_below (bits % 2 ^ 63) n d low (omega arith) (ten_to_pos (tens_down q)) same) in
     subst (IsTextOf x) (sym is) (by_digits x s q size close laid_out (middling_sized bits fits middling))
 
 -- a part of a buffer was written, and its first n bytes count

@@ -1,2 +1,3 @@
 pub mod BiasedText
+pub mod Cut
 pub mod LaidOutAnew

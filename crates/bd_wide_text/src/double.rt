@@ -1,14 +1,15 @@
 //! The text of a double.
 
-ghost use Rattle.std.specs.Prelude.{◌≡◌, ◌<◌, ◌≤◌, ◌≢◌, ◌==◌, ◌+◌, ◌++◌, length, take, OnErr, OnOk, IfSome, IfNone, slice_index};
+ghost use Rattle.std.specs.Prelude.{◌≡◌, ◌<◌, ◌≤◌, ◌≢◌, ◌==◌, ◌+◌, ◌^◌, ◌++◌, length, take, OnErr, OnOk, IfSome, IfNone, slice_index};
 ghost use Rattle.std.specs.Io.{StartsWith};
 ghost use Rattle.std.specs.Float.{binary64};
 ghost use Rattle.std.specs.Float.Ieee.{of_bits};
-ghost use Rattle.fast_float.specs.Text.{scan};
+ghost use Rattle.fast_float.specs.Text.{digits_of, scan};
 ghost use Rattle.bd_wide_text.specs.Double.{IsDoubleText, padded};
-ghost use Rattle.bd_wide_text.specs.inside.LaidOutAnew.{AreParts, AreZerosAfter, AreZerosBefore, IsLaidOutAnew, IsSized, large_text, small_text};
+ghost use Rattle.bd_wide_text.specs.inside.LaidOutAnew.{AreParts, AreZerosAfter, AreZerosBefore, IsLaidOutAnew, IsMiddling, IsSized, large_text, small_text};
 ghost use Rattle.bd_wide_text.specs.Layout.{Adds, mantissa};
 
+use crate::cut::{put_cut, too_many};
 use crate::layout::{put, put_mantissa};
 use crate::plain::{is_middling, put_plain};
 use bd_value::NoMemory;
@@ -35,9 +36,23 @@ pub fn put_double(bits: u64, buffer: &mut [u8], end: usize) -> usize
     ensures end { result ≤ end + DOUBLE }
 {
     if is_middling(bits) {
-        return put_plain(bits, buffer, end);
+        return put_middling(bits, buffer, end);
     }
     put_any(bits, buffer, end)
+}
+
+/// The same, for a double whose text has no power of ten.
+#[inline(always)]
+fn put_middling(bits: u64, buffer: &mut [u8], end: usize) -> usize
+    requires size { IsMiddling bits }
+    requires space { end + DOUBLE ≤ length buffer.old }
+    ensures appended { Adds (IsDoubleText bits) (take end buffer.old) (take result buffer.new) }
+    ensures end { result ≤ end + DOUBLE }
+{
+    match put_plain(bits, buffer, end) {
+        Some(after) => after,
+        None => put_any(bits, buffer, end),
+    }
 }
 
 /// The same, for each double.
@@ -101,7 +116,7 @@ fn put_number(bits: u64, buffer: &mut [u8], end: usize) -> usize
 }
 
 /// Whether there is a minus before the number.
-fn has_sign(text: &[u8]) -> bool
+pub(crate) fn has_sign(text: &[u8]) -> bool
     ensures { result ≡ (slice_index text.now 0 == 45) }
 {
     match text {
@@ -119,6 +134,21 @@ fn put_size(size: &[u8], buffer: &mut [u8], end: usize) -> usize
     ensures end { result ≤ end + 32 }
 {
     let numeral = Numeral::scan(size);
+    match too_many(numeral.whole(), numeral.fraction()) {
+        Some(zeros) => put_cut(&numeral, zeros, buffer, end),
+        None => put_few(size, &numeral, buffer, end),
+    }
+}
+
+/// The same, if there are at most 17 digits.
+fn put_few(size: &[u8], numeral: &Numeral, buffer: &mut [u8], end: usize) -> usize
+    requires parts { AreParts size.now numeral.now }
+    requires few { digits_of numeral.now < 10 ^ 17 }
+    requires space { end + 32 ≤ length buffer.old }
+    ensures appended { Adds (IsLaidOutAnew numeral.now) (take end buffer.old)
+        (take result buffer.new) }
+    ensures end { result ≤ end + 32 }
+{
     let whole = numeral.whole();
     let fraction = numeral.fraction();
     let exponent = numeral.exponent();
@@ -136,7 +166,7 @@ fn put_size(size: &[u8], buffer: &mut [u8], end: usize) -> usize
 }
 
 /// Writes digits in two runs; `sign` and `power` are the power of ten of the first digit.
-fn put_scientific(
+pub(crate) fn put_scientific(
     digits: &[u8],
     more: &[u8],
     sign: &[u8; 2],

@@ -1,4 +1,4 @@
-use Rattle.std.proofs.Common.{◌≡◌, ◌<◌, ◌++◌, List, ℕ, length, ap, sym, ◌∙◌, subst, ne_eqb}
+use Rattle.std.proofs.Common.{◌<◌, ◌++◌, List, ℕ, length, ap, sym, ◌∙◌, subst, ne_eqb}
 use Rattle.bd_wide_text.proofs.Decimal128Lemmas.{size_is, some_digits}
 use Rattle.bd_wide_text.proofs.DoubleLemmas.{ok_on}
 use Rattle.bd_wide_text.proofs.decimal128.write_size.Goals as goal

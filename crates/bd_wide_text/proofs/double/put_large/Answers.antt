@@ -1,4 +1,4 @@
-use Rattle.std.proofs.Common.{arith, ◌≡◌, ◌-◌, length, length-take}
+use Rattle.std.proofs.Common.{arith, ◌-◌, length, length-take}
 use Rattle.bd_wide_text.proofs.LayoutLemmas.{short_power}
 use Rattle.bd_wide_text.proofs.double.put_large.Goals as goal
 

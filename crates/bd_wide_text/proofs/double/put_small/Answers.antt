@@ -1,4 +1,4 @@
-use Rattle.std.proofs.Common.{arith, ◌≡◌, ◌+◌, length, length-drop}
+use Rattle.std.proofs.Common.{arith, ◌+◌, length-drop}
 use Rattle.bd_wide_text.proofs.LayoutLemmas.{short_power}
 use Rattle.bd_wide_text.proofs.double.put_small.Goals as goal
 
