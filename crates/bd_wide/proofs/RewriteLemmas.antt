@@ -177,14 +177,15 @@ prefix_of_two a b c x is more = prefix_then a b c (prefix_all a x is) more
 
 -- ---- the count of a frame's bytes
 
-pub sealed : (old rest out : List ℕ) (at : ℕ) → out ≡ (old ++ number 0) ++ rest → at ≡ length old
+-- what the count of a frame's bytes makes of four bytes and the rest
+pub sealed : (old four rest out : List ℕ) (at : ℕ) → length four ≡ 4 → out ≡ (old ++ four) ++ rest → at ≡ length old
     → take at out ++ (number (length out - at) ++ drop (at + 4) out) ≡ old ++ (number (length rest + 4) ++ rest)
-sealed old rest out at is here =
-    let whole : out ≡ old ++ (number 0 ++ rest) = is ∙ append_assoc old (number 0) rest in
-    let size : length (old ++ number 0) ≡ at + 4 = omega (arith, here, length-append old (number 0), number_length 0) in
-    let total : length out - at ≡ length rest + 4 = omega (arith, here, ap (λ xs. length xs) is, length-append (old ++ number 0) rest, size) in
-    let prefix : take at out ≡ old = ap (take at) whole ∙ take_at old (number 0 ++ rest) at (sym here) in
-    let back : drop (at + 4) out ≡ rest = ap (drop (at + 4)) is ∙ drop_at (old ++ number 0) rest (at + 4) size in
+sealed old four rest out at four_long is here =
+    let whole : out ≡ old ++ (four ++ rest) = is ∙ append_assoc old four rest in
+    let size : length (old ++ four) ≡ at + 4 = omega (arith, here, length-append old four, four_long) in
+    let total : length out - at ≡ length rest + 4 = omega (arith, here, ap (λ xs. length xs) is, length-append (old ++ four) rest, size) in
+    let prefix : take at out ≡ old = ap (take at) whole ∙ take_at old (four ++ rest) at (sym here) in
+    let back : drop (at + 4) out ≡ rest = ap (drop (at + 4)) is ∙ drop_at (old ++ four) rest (at + 4) size in
     ap₂ (λ (x y : List ℕ). x ++ y) prefix (ap₂ (λ (n : ℕ) (x : List ℕ). number n ++ x) total back)
 
 pub opened : (old one two three x y : List ℕ) → one ≡ old ++ number 0 → two ≡ one ++ x → three ≡ two ++ y → length old + 4 ≤ length three
@@ -211,7 +212,7 @@ body_ok Is nested value old one two three out more inner last at some splits_mor
     let new : List ℕ = q.0 in
     let ended : length (new ++ last) + 4 ≡ length new + 5 = omega (arith, length-append new last, ap (λ xs. length xs) splits_last, length-drop (length value - 1) value) in
     let whole : out ≡ old ++ (number (length new + 5) ++ (new ++ last)) =
-    is ∙ sealed old (new ++ last) three at (three_parts old one two three new last p q.2 r) here
+    is ∙ sealed old (number 0) (new ++ last) three at (number_length 0) (three_parts old one two three new last p q.2 r) here
     ∙ ap (λ n. old ++ (number n ++ (new ++ last))) ended in
     let same : inner ≡ take (length value - 5) (drop 4 value) = splits_inner ∙ ap (take (length value - 5)) splits_more in (
       number (length new + 5) ++ (new ++ drop (length value - 1) value),
@@ -248,7 +249,7 @@ pub scoped_ok : (document : List ℕ → List ℕ → Type 0) (value old two thr
 scoped_ok document value old two three out scope start at gives eight fits splits_scope here q r is =
     let new : List ℕ = r.0 in
     let code : List ℕ = take (at - 4) (drop 4 value) in
-    let whole = is ∙ sealed old (code ++ new) three start (r.2 ∙ ap (λ x. x ++ new) q ∙ append_assoc (old ++ number 0) code new) here in
+    let whole = is ∙ sealed old (number 0) (code ++ new) three start (number_length 0) (r.2 ∙ ap (λ x. x ++ new) q ∙ append_assoc (old ++ number 0) code new) here in
     let size : length code ≡ at - 4 = length-take-le (at - 4) (drop 4 value) (omega (arith, fits, length-drop 4 value)) in
     let total : length (code ++ new) + 4 ≡ at + length new = omega (arith, length-append code new, size) in
     let fact : out ≡ old ++ (number (at + length new) ++ (code ++ new)) = whole ∙ ap (λ n. old ++ (number n ++ (code ++ new))) total in

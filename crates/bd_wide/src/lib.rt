@@ -13,12 +13,15 @@
 //! - `rewrite`: `write_rewritten`, the one walker, and `NumberWriter`, which it calls for each number.
 //! - `element`: the first element of bytes, by sizes alone.
 //! - `numbers`: `number_in`, the number in a value: `specs/Numbers.antt`.
+//! - `bytes`: numbers read from bytes and appended to them, and the count of the bytes of a document.
 #![tactic(auto)]
 
+mod bytes;
 mod element;
 mod numbers;
 mod rewrite;
 
+pub use bytes::{append_long, append_number, long, seal};
 pub use element::{Part, first_element, looked_into};
 pub use numbers::number_in;
 pub use rewrite::{NumberWriter, scope_at, write_rewritten};

@@ -4,7 +4,7 @@ ghost use Rattle.std.specs.Prelude.{◌≡◌, ◌≤◌, length};
 ghost use Rattle.bd_wide.specs.Numbers.{number_at};
 ghost use Rattle.bd_wide.specs.Rewritten.{least};
 
-use crate::element::long;
+use crate::bytes::long;
 use bd_bson_view::{ElementType, raw_parts as raw};
 use bd_value::Kind;
 use bd_wide_number::Number;

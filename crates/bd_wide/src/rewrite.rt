@@ -1,6 +1,6 @@
 //! A document with other numbers, from left to right.
 
-ghost use Rattle.std.specs.Prelude.{◌≡◌, ◌≤◌, ◌<◌, ◌+◌, ◌-◌, ◌++◌, List, ℕ, length, take, drop, vec_len, OnOk, OnErr, IfSome, Some};
+ghost use Rattle.std.specs.Prelude.{◌≡◌, ◌≤◌, ◌<◌, ◌+◌, ◌-◌, ◌++◌, List, ℕ, length, take, drop, OnOk, OnErr, IfSome, Some};
 ghost use Rattle.std.specs.Io.{StartsWith};
 ghost use Rattle.bd_bson_view.specs.Spelling.{number};
 ghost use Rattle.bd_wide.specs.Rewritten.{least, Adds, IsPart, AreElements, IsBody, IsScoped, IsNested, IsRewritten, part_of, scope_at as scope_at_of};
@@ -9,6 +9,7 @@ ghost use Rattle.bd_wide.specs.declared.element.Part.TheVariants as parts;
 ghost use Rattle.bd_bson_view.specs.declared.raw_parts.ElementType as element_type;
 ghost use Rattle.bd_bson_view.specs.declared.raw_parts.Holder.TheVariants as holders;
 
+use crate::bytes::{append_number, seal};
 use crate::element::{Part, first_element, looked_into};
 use bd_bson_view::{ElementType, Holder, raw_parts as raw};
 use bd_value::{MOST_LEVELS, NoMemory};
@@ -182,7 +183,7 @@ fn body<W: NumberWriter>(
 {
     let (inner, last) = inner_and_last(value);
     let at = out.len();
-    write_number(0, out)?;
+    append_number(0, out)?;
     elements(writer, depth_left, inner, out)?;
     out.extend_from_slice(last)?;
     seal(at, out);
@@ -260,7 +261,7 @@ fn write_code(at: usize, value: &[u8], out: &mut Vec<u8>) -> Result<(), NoMemory
 {
     let (_, more) = value.split_at(4);
     let (code, _) = more.split_at(at - 4);
-    write_number(0, out)?;
+    append_number(0, out)?;
     out.extend_from_slice(code)
 }
 
@@ -282,42 +283,4 @@ pub fn scope_at(value: &[u8]) -> Option<usize>
         return None;
     }
     Some(at)
-}
-
-/// Writes the count of the bytes from an offset on into the four bytes at that offset.
-fn seal(at: usize, out: &mut Vec<u8>)
-    requires { at + 4 ≤ vec_len out.old }
-    ensures { out.new.items ≡ take at out.old.items ++ (number (length out.old.items - at) ++ drop
-        (at + 4) out.old.items) }
-{
-    let count = out.len() - at;
-    put_number(at, count as u64, out);
-}
-
-/// Writes a number into the four bytes at an offset.
-#[tactic(auto, unfolding(bd_bson_view::specs::Spelling::number))]
-fn put_number(at: usize, n: u64, out: &mut Vec<u8>)
-    requires { at + 4 ≤ vec_len out.old }
-    ensures { out.new.items ≡ take at out.old.items ++ (number n ++ drop (at + 4) out.old.items) }
-{
-    let count = low_bytes(n);
-    let bytes: &mut [u8] = out;
-    bytes[at..at + 4].copy_from_slice(&count);
-}
-
-/// The four lowest bytes of a number, the lowest first.
-#[tactic(auto, unfolding(bd_bson_view::specs::Spelling::number))]
-fn low_bytes(n: u64) -> [u8; 4]
-    ensures { result ≡ number n }
-{
-    let bytes = n.to_le_bytes();
-    [bytes[0], bytes[1], bytes[2], bytes[3]]
-}
-
-/// Appends a number as four bytes.
-fn write_number(n: u64, out: &mut Vec<u8>) -> Result<(), NoMemory>
-    ensures ok { OnOk result (out.new.items ≡ out.old.items ++ number n) }
-    ensures err { OnErr result (out.new.items ≡ out.old.items) }
-{
-    out.extend_from_slice(&low_bytes(n))
 }

@@ -11,7 +11,7 @@ ghost use Rattle.bd_wide_copy.specs.Copy.{IsCodeIn, IsCopy};
 use crate::longs::Longs;
 use bd_bson_view::ElementType;
 use bd_value::NoMemory;
-use bd_wide::{NumberWriter, write_rewritten};
+use bd_wide::{NumberWriter, append_long, append_number, write_rewritten};
 
 /// Codes of numbers: each is that of what the number is worth.
 pub trait Codes {
@@ -65,7 +65,7 @@ fn put_int32(head: &[u8], z: i32, out: &mut Vec<u8>) -> Result<(), NoMemory>
     let (_, name) = head.split_at(1);
     out.extend_from_slice(&[0x10])?;
     out.extend_from_slice(name)?;
-    write_number(z.cast_unsigned(), out)
+    append_number(z.cast_unsigned() as u64, out)
 }
 
 /// Appends an element with an int64, under the name of an element: BSON 1.1, element 0x12.
@@ -79,25 +79,7 @@ fn put_int64(head: &[u8], z: i64, out: &mut Vec<u8>) -> Result<(), NoMemory>
     let (_, name) = head.split_at(1);
     out.extend_from_slice(&[0x12])?;
     out.extend_from_slice(name)?;
-    write_long(z.cast_unsigned(), out)
-}
-
-/// Appends a number as eight bytes.
-#[tactic(auto, unfolding(bd_bson_view::specs::Spelling::long))]
-fn write_long(n: u64, out: &mut Vec<u8>) -> Result<(), NoMemory>
-    ensures ok { OnOk result (out.new.items ≡ out.old.items ++ long_bytes n) }
-    ensures err { OnErr result (out.new.items ≡ out.old.items) }
-{
-    out.extend_from_slice(&n.to_le_bytes())
-}
-
-/// Appends a number as four bytes.
-#[tactic(auto, unfolding(bd_bson_view::specs::Spelling::number))]
-fn write_number(n: u32, out: &mut Vec<u8>) -> Result<(), NoMemory>
-    ensures ok { OnOk result (out.new.items ≡ out.old.items ++ number_bytes n) }
-    ensures err { OnErr result (out.new.items ≡ out.old.items) }
-{
-    out.extend_from_slice(&n.to_le_bytes())
+    append_long(z.cast_unsigned(), out)
 }
 
 /// Appends a copy of a document of all types, with the code of each number in its place, as an int64 or an int32 by its type.

@@ -1,5 +1,5 @@
 -- Two documents in step: what was found of the elements so far, and of one value.
-use Rattle.std.proofs.Common.{◌≡◌, inl, inr, ℕ, ℤ, ◌≤◌, ◌+◌, ◌-◌, List, [], ◌∷◌, ◌++◌, length, suc, take, drop, Bool, true, false, refl, sym, ap, ◌∙◌, subst, pos, arith, append-nil, append_assoc, length-append, take_at, drop_at}
+use Rattle.std.proofs.Common.{◌≡◌, inl, inr, ℕ, ℤ, ◌≤◌, ◌+◌, ◌-◌, List, [], ◌∷◌, ◌++◌, length, suc, take, drop, Bool, true, false, refl, sym, ap, ◌∙◌, subst, pos, arith, append-nil, append_assoc, length-append, take_at}
 use Rattle.bd_value.specs.declared.node.Kind.{Kind}
 use Rattle.bd_value.specs.declared.node.Kind.TheVariants as kinds
 use Rattle.bd_value.specs.View.{kind_of, scalar_kind}
@@ -12,6 +12,7 @@ use Rattle.bd_bson_view.specs.declared.views.At.{At}
 use Rattle.bd_bson_view.proofs.ValueAtLemmas.{reads_at, size_at}
 use Rattle.bd_bson_view.specs.Spelling.{as_int32, as_int64, as_double, as_decimal128, type_byte, is_holder, number, long, string, framed, scoped, IsName, IsText, IsScalar, IsValue, AreFieldsBy, IsValuedScalar, written_typed, nineteen, scalar_bytes}
 use Rattle.bd_bson_view.specs.Unique.{values, number_length, no_holder}
+use Rattle.bd_wide.proofs.RewriteLemmas.{sealed}
 use Rattle.bd_wide_dump.specs.Raw.{raw}
 use Rattle.bd_wide_dump.specs.Values.{values_in}
 use Rattle.bd_wide_number.specs.declared.number.Number.{Number}
@@ -390,32 +391,13 @@ decimal_put low high name old mid half new put first is =
 
 -- ---- lengths
 
--- bytes after four that are written again
-pub sealed : (o four body out new : List ℕ) (at : ℕ) → length four ≡ 4 → at ≡ length o → out ≡ (o ++ four) ++ body
-    → new ≡ take at out ++ (number (length out - at) ++ drop (at + 4) out) → new ≡ o ++ (number (length body + 4) ++ body)
-sealed o four body out new at size start e is =
-    let long : length (o ++ four) ≡ length o + length four = length-append o four in
-    let all : length out ≡ length (o ++ four) + length body = ap length e ∙ length-append (o ++ four) body in
-    let before : take at out ≡ o = ap (take at) (e ∙ append_assoc o four body) ∙ take_at o (four ++ body) at (sym start) in
-    let after : drop (at + 4) out ≡ body = ap (drop (at + 4)) e ∙ drop_at (o ++ four) body (at + 4) (omega arith) in
-    let count : length out - at ≡ length body + 4 = omega arith in
-    is ∙ (λ i. before i ++ (number (count i) ++ after i))
-
--- a document: four bytes, the elements, a zero
-pub framed_out : (o four m m1 m2 new : List ℕ) (at : ℕ) (bytes : List ℕ) → length four ≡ 4 → at ≡ length o → m ≡ o ++ four → m1 ≡ m ++ bytes → m2 ≡ m1 ++ 0 ∷ []
-    → new ≡ take at m2 ++ (number (length m2 - at) ++ drop (at + 4) m2) → new ≡ o ++ framed bytes
-framed_out o four m m1 m2 new at bytes size start a b c is =
-    let whole : m2 ≡ (o ++ four) ++ (bytes ++ 0 ∷ []) = c ∙ ap (λ (x : List ℕ). x ++ 0 ∷ []) (b ∙ ap (λ (x : List ℕ). x ++ bytes) a) ∙ append_assoc (o ++ four) bytes (0 ∷ []) in
-    let count : length (bytes ++ 0 ∷ []) + 4 ≡ length bytes + 5 = omega (arith, length-append bytes (0 ∷ [])) in
-    sealed o four (bytes ++ 0 ∷ []) m2 new at size start whole is ∙ ap (λ (k : ℕ). o ++ (number k ++ (bytes ++ 0 ∷ []))) count
-
 -- code with scope: four bytes, the code, the scope
 pub scoped_out : (o m1 m2 new code scope : List ℕ) (at : ℕ) → at ≡ length o → m1 ≡ o ++ (0 ∷ 0 ∷ 0 ∷ 0 ∷ string code) → m2 ≡ m1 ++ scope
     → new ≡ take at m2 ++ (number (length m2 - at) ++ drop (at + 4) m2) → new ≡ o ++ scoped code scope
 scoped_out o m1 m2 new code scope at start a b is =
     let four : List ℕ = 0 ∷ 0 ∷ 0 ∷ 0 ∷ [] in
     let whole : m2 ≡ (o ++ four) ++ (string code ++ scope) = b ∙ ap (λ (x : List ℕ). x ++ scope) a ∙ simp append_assoc in
-    sealed o four (string code ++ scope) m2 new at refl start whole is
+    is ∙ sealed o four (string code ++ scope) m2 at refl whole start
 
 -- ---- a whole document
 

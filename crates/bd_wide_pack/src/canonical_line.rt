@@ -19,6 +19,7 @@ use bd_extjson_pack::canonical_line::{
 };
 use bd_extjson_pack::elements::{begin_element, begin_item};
 use bd_value::{Kind, MOST_LEVELS};
+use bd_wide::append_long;
 use bd_wide_read::{read_decimal128, read_double};
 
 /// Appends the document that all of the text is, to bytes that were none.
@@ -147,12 +148,12 @@ fn append_number<'a>(text: &'a str, out: &mut Vec<u8>) -> Result<(u8, &'a str), 
         × (out.new.items ≡ out.old.items ++ bytes)) }
 {
     if let Some((bits, rest)) = double(text) {
-        out.extend_from_slice(&bits.to_le_bytes())?;
+        append_long(bits, out)?;
         return Ok((0x01, rest));
     }
     let (low, high, rest) = decimal128(text).ok_or(Refusal::Unread)?;
-    out.extend_from_slice(&low.to_le_bytes())?;
-    out.extend_from_slice(&high.to_le_bytes())?;
+    append_long(low, out)?;
+    append_long(high, out)?;
     Ok((0x13, rest))
 }
 

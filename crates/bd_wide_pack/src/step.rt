@@ -1,12 +1,12 @@
 //! A document with doubles and decimal128, from two documents that have other values for them, in step.
 
-ghost use Rattle.std.specs.Prelude.{◌≡◌, ◌≤◌, ◌+◌, ◌-◌, ◌++◌, ◌∷◌, ◌↔◌, [], ℕ, List, Ok, IfOk, IfSome, IfNone, IsTrue, MatchOption, OnOk, length, pos, take, drop, vec_len, true, false};
+ghost use Rattle.std.specs.Prelude.{◌≡◌, ◌++◌, ◌∷◌, ◌↔◌, [], ℕ, List, Ok, IfOk, IfSome, IfNone, IsTrue, MatchOption, OnOk, pos, true, false};
 ghost use Rattle.bd_value.specs.declared.node.Kind.TheVariants as kinds;
 ghost use Rattle.bd_value.specs.Tree as trees;
 ghost use Rattle.bd_value.specs.Tree.{Doc, Fields, leaf, doc, code_scope, fields_of, int32};
 ghost use Rattle.bd_value.specs.View.{kind_of};
 ghost use Rattle.bd_bson_view.specs.Raw.{value_tree, value_source, remaining_pairs, elements_source};
-ghost use Rattle.bd_bson_view.specs.Spelling.{IsDocument, IsValue, framed, is_holder, long, number, string};
+ghost use Rattle.bd_bson_view.specs.Spelling.{IsDocument, IsValue, framed, is_holder, string};
 ghost use Rattle.bd_wide_number.specs.declared.number.Number.TheVariants.{Whole, Double, Decimal128};
 ghost use Rattle.bd_wide_pack.specs.Filled.{AreFilled};
 ghost use Rattle.bd_wide_pack.specs.Written.{IsWritten};
@@ -14,6 +14,7 @@ ghost use Rattle.bd_wide_pack.specs.inside.Mixed.{AreMixed, AreUnlike, HasName, 
 
 use bd_bson_view::{Elements, RawDoc, RawValue, raw_parts, type_byte};
 use bd_value::{Kind, NoMemory, Node, Reading, Scalar};
+use bd_wide::{append_long, append_number, seal};
 use bd_wide_number::Number;
 
 /// The bytes of both documents.
@@ -412,7 +413,7 @@ fn put_whole(name: &str, z: i64, out: &mut Vec<u8>) -> Result<(), NoMemory>
     ensures { OnOk result (IsPut (Whole z) name.now out.old.items out.new.items) }
 {
     put_name(0x12, name, out)?;
-    out.extend_from_slice(&eight_bytes(z.cast_unsigned()))?;
+    append_long(z.cast_unsigned(), out)?;
     Ok(())
 }
 
@@ -421,7 +422,7 @@ fn put_double(name: &str, bits: u64, out: &mut Vec<u8>) -> Result<(), NoMemory>
     ensures { OnOk result (IsPut (Double bits) name.now out.old.items out.new.items) }
 {
     put_name(0x01, name, out)?;
-    out.extend_from_slice(&eight_bytes(bits))?;
+    append_long(bits, out)?;
     Ok(())
 }
 
@@ -430,8 +431,8 @@ fn put_decimal128(name: &str, low: u64, high: u64, out: &mut Vec<u8>) -> Result<
     ensures { OnOk result (IsPut (Decimal128 low high) name.now out.old.items out.new.items) }
 {
     put_name(0x13, name, out)?;
-    out.extend_from_slice(&eight_bytes(low))?;
-    out.extend_from_slice(&eight_bytes(high))?;
+    append_long(low, out)?;
+    append_long(high, out)?;
     Ok(())
 }
 
@@ -441,36 +442,8 @@ fn put_code(code: &str, out: &mut Vec<u8>) -> Result<(), NoMemory>
         ≡ out.old.items ++ (0 ∷ 0 ∷ 0 ∷ 0 ∷ string code.now)) }
 {
     out.extend_from_slice(b"\0\0\0\0")?;
-    out.extend_from_slice(&four_bytes(code.len() as u64 + 1))?;
+    append_number(code.len() as u64 + 1, out)?;
     out.extend_from_slice(code.as_bytes())?;
     out.push(0)?;
     Ok(())
-}
-
-/// Writes the count of the bytes from an offset on into the four bytes at that offset.
-fn seal(at: usize, out: &mut Vec<u8>)
-    requires { at + 4 ≤ vec_len out.old }
-    ensures { out.new.items ≡ take at out.old.items
-        ++ (number (length out.old.items - at) ++ drop (at + 4) out.old.items) }
-{
-    let count = four_bytes((out.len() - at) as u64);
-    let bytes: &mut [u8] = out;
-    bytes[at..at + 4].copy_from_slice(&count);
-}
-
-/// The four lowest bytes of a number, the lowest first.
-#[tactic(auto, unfolding(bd_bson_view::specs::Spelling::number))]
-fn four_bytes(n: u64) -> [u8; 4]
-    ensures { result ≡ number n }
-{
-    let bytes = n.to_le_bytes();
-    [bytes[0], bytes[1], bytes[2], bytes[3]]
-}
-
-/// The bytes of a number, the lowest first.
-#[tactic(auto, unfolding(bd_bson_view::specs::Spelling::long))]
-fn eight_bytes(n: u64) -> [u8; 8]
-    ensures { result ≡ long n }
-{
-    n.to_le_bytes()
 }

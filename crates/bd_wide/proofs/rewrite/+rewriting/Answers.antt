@@ -11,13 +11,13 @@ use Rattle.bd_wide.proofs.rewrite.+rewriting.Goals as goal
 
 pub body-returns-in_err-elements-clause-prefix : goal.body-returns-in_err-elements-clause-prefix
 body-returns-in_err-elements-clause-prefix g t c =
-    rewrites.on_err c.from_residual-in_err-elements.result _ (rewrites.prefix_of_two c.args.out.now.items c.write_number.new.out.items c.elements.new.out.items (number 0)
-    c.in_ok-write_number.ensures.ok c.in_err-elements.ensures.prefix)
+    rewrites.on_err c.from_residual-in_err-elements.result _ (rewrites.prefix_of_two c.args.out.now.items c.append_number.new.out.items c.elements.new.out.items (number 0)
+    c.in_ok-append_number.ensures.ok c.in_err-elements.ensures.prefix)
 
 pub body-seal-requires : goal.body-seal-requires
 body-seal-requires g t c =
     let added = c.in_ok-elements.ensures.ok in
-    let size = rewrites.opened c.args.out.now.items _ _ c.extend_from_slice.new.self.items _ _ c.in_ok-write_number.ensures.ok added.2 c.in_ok-extend_from_slice.ensures.items in
+    let size = rewrites.opened c.args.out.now.items _ _ c.extend_from_slice.new.self.items _ _ c.in_ok-append_number.ensures.ok added.2 c.in_ok-extend_from_slice.ensures.items in
     let at : c.len-at.result ≡ length c.args.out.now.items = search rules in
     search rules
 
@@ -27,7 +27,7 @@ body-returns-clause-ok g t c =
     rewrites.body_ok (g.W.NumberWriter.is_written c.args.writer.now) (IsNested (g.W.NumberWriter.is_written c.args.writer.now) c.args.depth_left) c.args.value.now c.args.out.now.items _ _ c.extend_from_slice.new.self.items c.seal.new.out.items
     (drop 4 c.args.value.now) c.inner_and_last.result.0.now c.inner_and_last.result.1.now c.len-at.result
     c.requires refl c.inner_and_last.ensures.inner c.inner_and_last.ensures.last at
-    c.in_ok-write_number.ensures.ok c.in_ok-elements.ensures.ok c.in_ok-extend_from_slice.ensures.items c.seal.ensures
+    c.in_ok-append_number.ensures.ok c.in_ok-elements.ensures.ok c.in_ok-extend_from_slice.ensures.items c.seal.ensures
 
 pub element-returns-clause-ok : goal.element-returns-clause-ok
 element-returns-clause-ok g t c =

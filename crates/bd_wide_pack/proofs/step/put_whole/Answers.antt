@@ -9,5 +9,4 @@ pub returns : goal.returns
 returns c =
     let fits = c.ranges.z in
     let n : c.cast_unsigned.result ≡ cast_unsigned w64 c.args.z = search (rules, ints) in
-    let items = rw c.eight_bytes.ensures at c.in_ok-extend_from_slice.ensures.items in
-    whole_put c.args.z c.args.name.now _ _ _ c.in_ok-put_name.ensures (items ∙ ap (λ (k : ℕ). c.put_name.new.out.items ++ long k) n)
+    whole_put c.args.z c.args.name.now _ _ _ c.in_ok-put_name.ensures (c.in_ok-append_long.ensures.ok ∙ ap (λ (k : ℕ). c.put_name.new.out.items ++ long k) n)
