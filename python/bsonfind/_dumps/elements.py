@@ -9,6 +9,7 @@ from typing import Sequence
 _FIXED = {0x01: 8, 0x06: 0, 0x07: 12, 0x08: 1, 0x09: 8, 0x0A: 0, 0x10: 4, 0x11: 8, 0x12: 8, 0x13: 16, 0x7F: 0, 0xFF: 0}
 _COUNTED = {0x02: 4, 0x03: 0, 0x04: 0, 0x05: 5, 0x0C: 16, 0x0D: 4, 0x0E: 4, 0x0F: 0}
 DOCUMENT, ARRAY, PATTERN = 0x03, 0x04, 0x0B
+_KNOWN = {*_FIXED, *_COUNTED, PATTERN}
 # How many bytes the values of each type have, by the type; of those that are counted -1 less how many they have beside the count.
 # A pattern is neither.
 SIZES = [_FIXED.get(kind, ~_COUNTED.get(kind, 0)) for kind in range(0x100)]
@@ -18,15 +19,11 @@ length_at = struct.Struct("<i").unpack_from
 
 def value_end(data: bytes, kind: int, at: int) -> int | None:
     """Where a value of a type ends that begins at a byte; None if that is not known, or not in these bytes."""
-    end = None
-    if kind in _FIXED:
-        end = at + _FIXED[kind]
-    elif kind in _COUNTED and at + 4 <= len(data):
-        end = at + int.from_bytes(data[at : at + 4], "little", signed=True) + _COUNTED[kind]
-    elif kind == PATTERN:
-        options = data.find(b"\0", at) + 1
-        end = options and (data.find(b"\0", options) + 1 or None) or None
-    return end if end is not None and at <= end <= len(data) else None
+    try:
+        end = end_of(data, kind, at)
+    except (ValueError, struct.error):
+        return None
+    return end if kind in _KNOWN and at <= end <= len(data) else None
 
 
 def end_of(data: bytes, kind: int, at: int) -> int:
