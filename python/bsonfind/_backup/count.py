@@ -6,7 +6,7 @@ from decimal import Context, Decimal, Inexact
 from fractions import Fraction
 from typing import NamedTuple, Sequence
 
-from .._dumps.paths import DECIMAL128, INTEGERS, Number, Path, is_finite, number_of
+from .._dumps.paths import DECIMAL128, INTEGERS, Number, Path, is_finite, key_of, number_of
 from .._errors import BsonfindError
 from .texts import NESTED, order_of, texts
 
@@ -14,8 +14,6 @@ from .texts import NESTED, order_of, texts
 MOST_VALUES, MOST_BYTES = 1_000_000, 1 << 28
 # The value of a field that a document does not have.
 MISSING = b""
-# The key of NaN, which is not equal to itself.
-_NAN = "NaN"
 # The digits of all decimal128 are among 13,000: no sum of some is rounded.
 _EXACT = Context(prec=20_000, traps=[Inexact])
 
@@ -172,7 +170,7 @@ class Count:
         known = dict(zip(nested, texts(nested, program)))
         rows: dict[object, Row] = {}
         for value, documents in self._counts.items():
-            key = (value[0], known[value]) if value in known else _key_of(value)
+            key = (value[0], known[value]) if value in known else key_of(value)
             row, it = rows.get(key), self._sums.get(value)
             if row is None:
                 rows[key] = Row(value, documents, it)
@@ -184,15 +182,9 @@ class Count:
         return sorted(rows.values(), key=lambda row: (-row.documents, order[row.value]))
 
 
-def _key_of(value: bytes) -> object:
-    """What values that are equal have in common: numbers of all types are compared by their values."""
-    number = number_of(value) if value else None
-    return value if number is None else number if number == number else _NAN
-
-
 def _different(values: list[bytes]) -> list[bytes]:
     """The first of values that are equal."""
     found: dict[object, bytes] = {}
     for value in values:
-        found.setdefault(_key_of(value), value)
+        found.setdefault(key_of(value), value)
     return list(found.values())

@@ -7,12 +7,11 @@ from __future__ import annotations
 
 import json
 import re
-from decimal import Decimal
 from typing import Callable
 
 from .._dumps.elements import value_at
 from .._dumps.framing import documents_taken
-from .._dumps.paths import is_finite, number_of
+from .._dumps.paths import key_of
 from .._dumps.runs import each_document, lines_of_documents, pack_lines
 from .._dumps.sources import Source
 from .._errors import BsonfindError, DumpError, ProgramError
@@ -56,18 +55,11 @@ def _packed(texts: list[tuple[int, str, str]], name: str, program: str) -> list[
         if not refused:
             raise
         raise IdError(f"{name}: line {texts[int(refused[1]) - 1][0]}: {refused[2]}") from None
-    for _ in documents_taken([data], lambda document: keys.append(_key(value_at(document, [b""]) or b""))):
+    for _ in documents_taken([data], lambda document: keys.append(key_of(value_at(document, [b""]) or b""))):
         pass
     if len(keys) != len(texts):
         raise ProgramError(f"pack printed {len(keys)} documents in place of {len(texts)}")
     return keys
-
-
-def _key(value: bytes) -> object:
-    """What an id is compared by, which has this type and these bytes."""
-    number = number_of(value)
-    # NaN is not equal to itself.
-    return value if number is None else number if is_finite(number) else str(Decimal(number))
 
 
 def find_ids(path: str, ids: dict[object, str], program: str, take: Callable[[list[bytes]], None], is_bson: bool = False) -> list[str]:
@@ -79,7 +71,7 @@ def find_ids(path: str, ids: dict[object, str], program: str, take: Callable[[li
     def look_at(document: bytes) -> None:
         nonlocal size
         value = value_at(document, [b"_id"])
-        key = value and _key(value)
+        key = value and key_of(value)
         if key in ids:
             found.add(key)
             waiting.append(document)

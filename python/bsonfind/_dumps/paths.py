@@ -120,6 +120,12 @@ def number_of(value: bytes) -> Number | None:
     return _decimal_of(bits) if kind == DECIMAL else bits
 
 
+def key_of(value: bytes) -> object:
+    """What values that are equal have in common: numbers of all types are compared by their values. NaN is not equal to itself."""
+    number = number_of(value) if value else None
+    return value if number is None else number if number == number else "NaN"
+
+
 def is_finite(number: Number) -> bool:
     return number.is_finite() if isinstance(number, Decimal) else isfinite(number)
 
