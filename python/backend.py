@@ -138,7 +138,7 @@ def build_sdist(sdist_directory: str, config_settings: Settings | None = None) -
 
 
 def put_information(folder: Path) -> None:
-    """Put into a folder with modules what tells Python which version is there. Without a list of files pip removes none."""
+    """Put into a folder with modules what says to Python which version is there. Without a list of files pip removes none."""
     (folder / INFO).mkdir(exist_ok=True)
     (folder / INFO).chmod(0o755)
     for name, data in (*information().items(), (f"{INFO}/INSTALLER", b"make\n")):

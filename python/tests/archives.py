@@ -73,7 +73,7 @@ def end(database: str, collection: str, documents: bytes) -> bytes:
 
 
 def prelude(*lists: bytes) -> bytes:
-    """What stands before the blocks."""
+    """What is before the blocks."""
     return MAGIC + header() + b"".join(lists) + END
 
 
@@ -88,7 +88,7 @@ def documents_of(data: bytes) -> List[bytes]:
 
 
 def archive(collections: Sequence[Tuple[str, str, bytes]], each: int = 50, others: Iterable[bytes] = ()) -> bytes:
-    """An archive of collections, whose blocks of so many documents alternate."""
+    """An archive of collections, whose blocks of this many documents alternate."""
     parts = [prelude(*(listed(database, name, METADATA % name) for database, name, _ in collections), *others)]
     left = [(database, name, data, documents_of(data)) for database, name, data in collections]
     while left:

@@ -1,4 +1,4 @@
-"""What the tests share: the program, dumps and rooms for files."""
+"""What the tests share: the program, dumps and directories for files."""
 
 import os
 import shutil
@@ -14,7 +14,7 @@ from typing import Callable, Iterable, List, Tuple
 ROOT = Path(__file__).resolve().parents[2]
 PACKAGE = ROOT / "python"
 PROGRAM = os.environ.get("BSONFIND") or shutil.which("bsonfind") or str(ROOT / "bsonfind")
-# The program for all types stands beside it, and a script in place of the program finds it on PATH.
+# The program for all types is beside it, and a script in place of the program finds it on PATH.
 WIDE = os.path.join(os.path.dirname(os.path.abspath(PROGRAM)), "bsonwide")
 os.environ["PATH"] = os.pathsep.join([os.path.dirname(WIDE), os.environ.get("PATH", os.defpath)])
 PEOPLE = ROOT / "examples/people.bson"
@@ -45,7 +45,7 @@ class Room(unittest.TestCase):
         return path
 
     def script(self, text: str, name: str = "program") -> str:
-        """A program that is a script of the shell, in which PROGRAM and WIDE are the real ones and ROOM the directory.
+        """A program that is a script of the shell, in which `PROGRAM` and `WIDE` are the real ones and `ROOM` the directory.
 
         In place of `bsonwide` it says the version by itself, unless its text does.
         """
@@ -69,13 +69,13 @@ class Room(unittest.TestCase):
     def counting(self) -> str:
         """The program, of which each start is a line of the file `starts`, but those of `bsonwide` for its version.
 
-        A start of `bsonwide` has this name before its words.
+        A start of `bsonwide` has this name before its arguments.
         """
         self.script('echo bsonwide "$@" >>"$ROOM/starts"\nexec "$WIDE" "$@"', "bsonwide")
         return self.script('echo "$@" >>"$ROOM/starts"\nexec "$PROGRAM" "$@"')
 
     def starts(self) -> List[str]:
-        """The words of each start of the counting programs."""
+        """The arguments of each start of the counting programs."""
         path = self.room / "starts"
         return path.read_text().splitlines() if path.exists() else []
 
@@ -102,7 +102,7 @@ class Room(unittest.TestCase):
             self.assertEqual(run.wait(), 2)
 
     def interrupt(self, code: str, stuck: int) -> int:
-        """Interrupts Python alone once so many programs are stuck below it, and gives its status; none of them may be left."""
+        """Interrupts Python alone once this many programs are stuck below it, and gives its status; none of them may be left."""
         code = f"import signal\nsignal.signal(signal.SIGINT, signal.default_int_handler)\n{code}"
         streams = {"stdout": subprocess.DEVNULL, "stderr": subprocess.DEVNULL}
         python = subprocess.Popen([sys.executable, "-c", code], env=environment(), **streams)

@@ -224,7 +224,7 @@ class Audits(Room):
         self.assertIn(f"bsonkit: {whole}: an archive: name one of its collections", run.stderr)
 
     def test_copies_in_place_of_dumps(self) -> None:
-        """With the log, a dump of another backup inside of this one stands for none, nor does a second one of a collection."""
+        """With the log, a dump of another backup inside of this one represents none, nor does a second one of a collection."""
         log = self.file(LOG.encode(), "log")
         old = self.room / "backup/old/shop/orders.bson"
         old.parent.mkdir(parents=True)
@@ -297,7 +297,7 @@ class Audits(Room):
         return [*COMMAND, "audit", *words]
 
     def test_what_is_not_seen_below_a_directory(self) -> None:
-        """Is reported, each by its name, and nothing is good that was not seen."""
+        """Is reported, each by its name, and nothing is good that was not looked at."""
         club, shop = self.room / "backup/club", self.room / "backup/shop"
         (self.room / "away").mkdir()
         os.mkfifo(club / "pipe.bson")
@@ -541,7 +541,7 @@ class Audits(Room):
     def test_what_cannot_be_read(self) -> None:
         """gzip -t finds each of them faulty, the empty one too."""
         packed = gzip.compress(SHOP.read_bytes())
-        self.people.write_bytes(gzip.compress(PEOPLE.read_bytes(), 0)[:50_000])  # Its bytes stand there as they are.
+        self.people.write_bytes(gzip.compress(PEOPLE.read_bytes(), 0)[:50_000])  # Its bytes are there as they are.
         wrong = bytearray(packed)
         wrong[-5] ^= 1
         for name, data, problem in (
@@ -557,7 +557,7 @@ class Audits(Room):
             self.assertIn(f"{path}: not a sound file of gzip: {problem}", self.audit(self.backup, status=1))
         lines = self.audit(self.backup, status=1)
         self.assertIn(f"{self.people}: not a sound file of gzip: it ends too soon", lines)
-        # What stands before the damage was checked.
+        # What is before the damage was checked.
         rows = ("files", 7), ("documents", 274 + 4 * 400), ("faulty", 1), ("  bad length", 1), ("not read", 6)
         self.assertEqual(lines[-5:], self.table(*rows))
 

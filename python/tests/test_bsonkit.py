@@ -199,7 +199,7 @@ class Becoming(Room):
             self.assertEqual(self.started("check", "-", stdin=file)[1], b'document 0, byte 7, path "d": bad boolean\n')
 
     def test_others(self) -> None:
-        """What is packed, a pipe, an archive, several files, one above 4 GiB, and what cannot be read go on as they did."""
+        """What is packed, a pipe, an archive, several files, one above 4 GiB, and what cannot be read are left to the package."""
         path = self.file(PEOPLE.read_bytes())
         packed = self.file(gzip.compress(PEOPLE.read_bytes()), "dump.bson.gz")
         whole = self.file(archive([("club", "people", PEOPLE.read_bytes())]), "archive")
@@ -228,7 +228,7 @@ class Becoming(Room):
                     self.assertEqual(_is_plain(opened.fileno()), is_plain)
 
     def test_a_file_that_is_named_hyphen(self) -> None:
-        """It never stands for standard input."""
+        """It is never taken for standard input."""
         whole = self.file(archive([("club", "people", PEOPLE.read_bytes())]), "-")
         run = subprocess.run(
             [*COMMAND, "dump", "-"],
@@ -268,7 +268,7 @@ class Becoming(Room):
 
 class Programs(Room):
     def commands(self) -> List[Tuple[Tuple[str, ...], int]]:
-        """The words of each command that starts `bsonwide`, and the status of one that fails."""
+        """The arguments of each command that starts `bsonwide`, and the status of one that fails."""
         plain, packed = str(PEOPLE), str(self.file(gzip.compress(PEOPLE.read_bytes()), "packed.bson.gz"))
         wide, bad = str(self.file(DOUBLE, "backup/wide.bson")), str(self.file(DAMAGED, "bad.bson"))
         ids = str(self.file(b"7\n", "ids"))
@@ -359,7 +359,7 @@ class Streams(Room):
             self.assertEqual(sorted(it.name for it in self.room.iterdir()), ["dump.bson", "out"])
 
     def test_hangup(self) -> None:
-        """SIGHUP leaves no file behind, and ends the runs; where it is ignored, as by nohup, it does nothing."""
+        """SIGHUP leaves no file, and ends the runs; where it is ignored, as by nohup, it does nothing."""
         program, pids = self.stuck(), self.room / "pids"
         for command, name in (("salvage", "--good"), ("ids", "--missing")):
             words = ["--good", str(self.room / "good"), "--bad", str(self.room / "bad")]

@@ -94,7 +94,7 @@ class Children(Room):
                     self.assertEqual((status, len(lines), told), (0, len(ANSWERS), ""))
                     for number, (line, answer) in enumerate(zip(lines, ANSWERS)):
                         if number in failed:
-                            # An audit goes on with the next file, and says of this one that it was not read.
+                            # An audit continues with the next file, and says of this one that it was not read.
                             self.assertRegex(line, r"^(ProgramError|DumpError|SessionEndedError): |^\[\(0, 0, '(no count was printed|ended by signal 9)'\)\]$")
                         else:
                             self.assertEqual(line, answer)

@@ -122,7 +122,7 @@ class Compares(Room):
         self.assertEqual(found[6:], self.rows(one, other, (6, 6), 0, 6, 0, 0))
 
     def test_documents_like_values(self) -> None:
-        """A value, and a document that has the same text, are not the same, wherever they stand."""
+        """A value, and a document that has the same text, are not the same, at any path."""
         double, like = field(1, "v", struct.pack("<d", 1.5)), document(field(2, "$numberDouble", text("1.5")))
         oid, like_oid = field(7, "v", bytes(12)), document(field(2, "$oid", text("0" * 24)))
         pairs = [(double, field(3, "v", like)), (oid, field(3, "v", like_oid))]
@@ -140,7 +140,7 @@ class Compares(Room):
             self.assertEqual(self.compared(name, name, status=0), self.rows(name, name, (4, 4), 4, 0, 0, 0))
 
     def test_pieces_of_any_size(self) -> None:
-        """Documents are told where they are cut by what is read at once, a long one among them."""
+        """Documents are found where what is read at once ends inside of them, a long one among them."""
         data = SHOP.read_bytes() + packed(['{"_id":1,"text":"%s"}' % ("x" * 3000)])
         one, two = str(self.file(data, "one.bson")), str(self.file(data, "two.bson"))
         for size in (7, 1000):
@@ -190,7 +190,7 @@ class Compares(Room):
         self.assertEqual((done.documents, done.kinds["same"]), ((500, 500), 500))
 
     def test_memory_does_not_grow_with_the_dump(self) -> None:
-        """What is held is bounded by bytes, of which both dumps have more."""
+        """What is in memory is bounded by bytes, of which both dumps have more."""
         peaks = []
         for count in (3000, 12_000):
             path = self.dump(*(f'{{"_id":{number},"text":"{"x" * 500}"}}' for number in range(count)), name=f"{count}.bson")

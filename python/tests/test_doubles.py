@@ -194,7 +194,7 @@ class Finds(Goods):
         self.assertTrue(all(size <= 10_000 or count == 1 for size, count in held), held)
 
     def test_damage(self) -> None:
-        """A fault has its place in the dump, wherever doubles are."""
+        """A fault has its place in the dump, before and after doubles."""
         data = b"".join(GOODS)
         for bad, byte, place in (
             (DAMAGED, 7, 'path "d": bad boolean'),

@@ -127,7 +127,7 @@ class Goods(Dumps):
                 self.assertEqual(list(find(path, {"cost": Decimal("19.99")}, decode=decode, program=PROGRAM)), [wanted])
 
     def test_one_run(self) -> None:
-        """A question is one run of `bsonwide find`, with the words of the caller, and of a plain file by its descriptor."""
+        """A question is one run of `bsonwide find`, with the arguments of the caller, and of a plain file by its descriptor."""
         for ask, words in (
             (lambda program: list(find(self.path, {"price": 9.5}, limit=2, program=program)), '--query={"price":9.5} --sort={} --skip=0 --limit=2'),
             (lambda program: count_documents(self.path, {"a": {"$gt": 1}}, program=program), '--query={"a":{"$gt":1}} --sort={} --skip=0 --limit=0 --count'),
@@ -139,7 +139,7 @@ class Goods(Dumps):
             (self.room / "starts").unlink()
 
     def test_types_of_numbers(self) -> None:
-        """Two classes of them are told apart, by number or name; three are refused."""
+        """Two classes of them are separated, by number or name; three are refused."""
         for kind in ("double", "int", "long", "decimal", 1, 16, 18, 19, ["double", "string"], ["int", "long"], ["double", "decimal"]):
             kinds = {NUMBER_TYPES.get(it, it) for it in (kind if isinstance(kind, list) else [kind])}
             wanted = [place for place, types in enumerate(PRICE_TYPES) if kinds & types]
@@ -188,7 +188,7 @@ class Goods(Dumps):
             self.assertEqual(count_parts(parts, filter, program=PROGRAM), 1)
 
     def test_pages_of_long_queries(self) -> None:
-        """They go on to the next one, by an index too, of a pipe and of a packed dump."""
+        """They lead to the next one, by an index too, of a pipe and of a packed dump."""
         filter, path = {"_id": {"$in": [*range(6), "a" * LONGEST_ARGUMENT]}}, self.file(gzip.compress(b"".join(GOODS)), "goods.bson.gz")
         for dump, index in ((self.path, None), (self.path, "_id"), (path, "price")):
             first = find(dump, filter, sort={"_id": -1}, page=4, index=index, decode="bson", program=PROGRAM)
@@ -430,7 +430,7 @@ class Commands(Dumps):
                 self.assertEqual(self.run_find("-", *form, *words, stdin=b"".join(GOODS)), (1, b"", f"bsonkit: {told}\n"))
 
     def test_files_that_are_too_large(self) -> None:
-        """They are asked by parts, here of 100 bytes, in all forms, sorted, skipped and cut; a fault has its place in the whole."""
+        """They are asked by parts, here of 100 bytes, in all forms, sorted, skipped and limited; a fault has its place in the whole."""
         data = b"".join(PRICES * 3)
         path, most = self.file(data), len(data) - 1
         code = f"import sys\nimport bsonfind._command.finding as it, bsonfind._command.program as its\nit.LARGEST_INPUT = its._LARGEST = {most}\n"

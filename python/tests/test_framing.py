@@ -85,7 +85,7 @@ class Unpacking(unittest.TestCase):
                 self.assertGreater(len(found), 49_900)
 
     def test_zeros_that_are_packed(self) -> None:
-        """More than is unpacked at once stands in few bytes, also before a fault."""
+        """More than is unpacked at once is in few bytes, also before a fault."""
         data = bytes(30_000_000)
         packed = gzip.compress(data)
         self.assertEqual(self.unpack(packed, 1 << 18), (data, ""))

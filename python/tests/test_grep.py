@@ -147,7 +147,7 @@ class Grep(Room):
         self.assertEqual(found, self.rows(path, [("1", "x", '"aaa"'), ("2", "z", '"aa"'), ("3", "x", '"aaaa"')]))
 
     def test_damage(self) -> None:
-        """What is good before and after it is searched: of a bad document, a wrong length, a file of gzip that was cut."""
+        """What is good before and after it is searched: of a bad document, a wrong length, a file of gzip that ends too soon."""
         good = TEXTS[0] * 4
         bad = self.file(good + DAMAGED + good, "bad.bson")
         told = f'{bad}: document 4, byte {len(good) + 7}, path "d": bad boolean'
@@ -175,7 +175,7 @@ class Grep(Room):
         self.assertIn("argument --timeout: a number from 1 to 2147483647, not 0", run_package("grep", "ada", str(good), "--timeout", "0").stderr)
 
     def test_archives(self) -> None:
-        """Of a file, of a pipe, by gzip, and one collection; one with damage, and one that was cut."""
+        """Of a file, of a pipe, by gzip, and one collection; one with damage, and one that ends too soon."""
         people, orders = b"".join(TEXTS[:5]), TEXTS[7] * 3
         data = archive([("club", "people", people), ("shop", "orders", orders)], 2)
         path = self.file(data, "night.archive")

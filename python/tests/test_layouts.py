@@ -1,4 +1,4 @@
-"""Tests of the words of `dump` and `find` that say how documents are printed, over each form of a dump. Expected values come from Python's
+"""Tests of the options of `dump` and `find` that say how documents are printed, over each form of a dump. Expected values come from Python's
 `json` and `csv` over a model of the documents."""
 
 import csv
@@ -32,7 +32,7 @@ DOCUMENTS: List[Document] = [
     {"_id": {"a": 1}, "list": [], "in": [{"a": True}, {"a": -0.25}]},
     {},
 ]
-# The words of a layout, and what they say.
+# The options of a layout, and what they say.
 LAYOUTS: List[Tuple[List[str], Dict[str, Any]]] = [
     ([], {}),
     (["--type=json", "--jsonFormat", "canonical"], {}),
@@ -263,7 +263,7 @@ class Layouts(Room):
             self.assertEqual(run_of_bytes("find", path, *words)[:2], (1, b""), words)
 
     def test_refused_fields(self) -> None:
-        """They are refused before anything is read, as a pipe shows that no one writes to."""
+        """They are refused before anything is read, as of a pipe that no one writes to."""
         os.mkfifo(self.room / "pipe")
         told = "fields: not paths to separate fields\n"
         for fields in ("a,a.b", "", "a..b", "a,", "a,a"):

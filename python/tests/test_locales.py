@@ -29,7 +29,7 @@ class Locales(Room):
         return subprocess.run(command, env={**environment(), **locale}, capture_output=True, timeout=PATIENCE)
 
     def latin(self) -> Optional[Dict[str, str]]:
-        """A locale of ISO-8859-1, None where none can be made."""
+        """A locale of ISO-8859-1, None if none can be made."""
         name = "de_DE.ISO-8859-1"
         if shutil.which("localedef"):
             subprocess.run(["localedef", "-i", "de_DE", "-f", "ISO-8859-1", str(self.room / name)], capture_output=True, check=False)

@@ -292,7 +292,7 @@ class Audits(Room):
         self.assertEqual(len(audit(self.room / "backup", expect=log, program=PROGRAM).miscounted), 1)
 
     def test_details_of_damage(self) -> None:
-        """The bad byte and the id of a document, where documents continue, and the rest of a file that was cut."""
+        """The bad byte and the id of a document, where documents continue, and the rest of a file that ends too soon."""
         data = bytearray(SHOP.read_bytes())
         data[90], data[814] = 2, 0xFF
         data[99809:99811] = b"\x10\x27"

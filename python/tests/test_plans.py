@@ -1,4 +1,4 @@
-"""Tests of plans: where a dump is cut."""
+"""Tests of plans: where a dump is split."""
 
 from bsonfind import DumpError, Part, PartError, plan
 
@@ -24,7 +24,7 @@ class Plans(Room):
         self.assertEqual(plan(PEOPLE), [Part(str(PEOPLE), 0, len(data), 0)])
 
     def test_cuts(self) -> None:
-        """Those of 40,000 bytes are told by a script of the guide too."""
+        """Those of 40,000 bytes are printed by a script of the guide too."""
         self.assertEqual([(it.offset, it.first) for it in plan(PEOPLE, 40_000)], [(0, 0), (39978, 220), (79930, 436)])
         lengths = [5, 9, 7, 30, 5, 5]
         path = str(self.file(b"".join(map(empty, lengths))))

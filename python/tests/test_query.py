@@ -146,7 +146,7 @@ class AsksForIds(Room):
         self.assertEqual(self.ids([it for form in forms for it in form], status=0, told="6 of 6 ids found\n", path=path), wanted)
 
     def test_ids_that_are_not_one(self) -> None:
-        """A name that stands twice, parts in another order, and a list that looks like a number."""
+        """A name that is there twice, parts in another order, and a list that looks like a number."""
         ids = ['{"a":1,"a":2}', '{"a":2}', '{"a":2,"b":1}', '{"b":1,"a":2}', '{"a":["number","1"]}', '{"a":1}', '{"a":{"t":1,"i":2}}', '{"a":{"i":2,"t":1}}']
         data = packed(f'{{"_id":{it}}}' for it in ids)
         found = self.ids(ids, status=0, told="8 of 8 ids found\n", path=self.file(data))

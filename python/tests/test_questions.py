@@ -114,7 +114,7 @@ class Compressed(Room):
 
 class Pipes(Room):
     def test_pipe_with_a_name(self) -> None:
-        """It is read by its bytes, and cannot be cut."""
+        """It is read by its bytes, and cannot be split."""
         path = self.room / "pipe"
         os.mkfifo(path)
         for ask in (lambda: len(list(find(path, program=PROGRAM))), lambda: count_documents(path, program=PROGRAM)):
@@ -149,7 +149,7 @@ class Pipes(Room):
 
 class Loader(Room):
     def test_lines_of_the_loader(self) -> None:
-        """A line that stands before the program's own on standard error changes nothing."""
+        """A line before the program's own on standard error changes nothing."""
         code = f"""
 import bsonfind
 people, program = {str(PEOPLE)!r}, {PROGRAM!r}
@@ -226,7 +226,7 @@ class LongFilters(Room):
 
 
 class Parts(Room):
-    """Files that change after they were cut."""
+    """Files that change after they were split."""
 
     def test_file_that_was_replaced(self) -> None:
         path = self.file(PEOPLE.read_bytes())
@@ -307,7 +307,7 @@ class Pymongo(Room):
                 self.session.find(hint=hint)
 
     def test_batch_size(self) -> None:
-        """It cuts no answer, as in pymongo; a page does."""
+        """It limits no answer, as in pymongo; a page does."""
         for size in (0, 1, 5):
             answer = find(PEOPLE, OLD, batch_size=size, decode="bytes", program=PROGRAM)
             self.assertEqual((list(answer), answer.end), (OLD_LINES, True))

@@ -108,7 +108,7 @@ class Replaced(Room):
             self.refused(lambda: list(find(self.path, program=program, **how)))
 
     def test_hard_links_and_modes(self) -> None:
-        """They count as changes, since the time that shows a replaced file shows them too."""
+        """They count as changes, since the time by which a replaced file is known changes with them too."""
         with Session(self.path, PROGRAM) as session:
             os.link(self.path, self.room / "link")
             self.refused(lambda: session.count_documents({}), "its name or its rights changed")

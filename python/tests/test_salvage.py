@@ -73,7 +73,7 @@ class Salvages(Room):
         self.assertEqual((good, bad), (data[:99809] + data[100182:], b""))
 
     def test_wrong_lengths_and_faults(self) -> None:
-        """Bytes that are no documents stand before, between and after some, of which one has a fault."""
+        """Bytes that are no documents are before, between and after some, of which one has a fault."""
         people, junk = PEOPLE.read_bytes(), b"\xff" * 3_000_000
         told, good, bad = self.salvage(junk + people + DAMAGED + junk + people + junk, 1)
         self.assertEqual((good, bad), (people * 2, DAMAGED))
@@ -105,9 +105,9 @@ class Salvages(Room):
         self.assertEqual(self.good.read_bytes(), people)
 
     def test_compressed_dump_that_is_damaged(self) -> None:
-        """All that stands before the damage is copied."""
+        """All that is before the damage is copied."""
         people = PEOPLE.read_bytes()
-        packed = gzip.compress(people, 0)  # Its bytes stand there as they are.
+        packed = gzip.compress(people, 0)  # Its bytes are there as they are.
         done = self.salvaged(packed[:50_000], "people.bson.gz")
         self.assertEqual((done.good, done.bad, done.is_good), (273, 0, False))
         self.assertEqual(done.error, "not a sound file of gzip: it ends too soon")
@@ -148,7 +148,7 @@ class Salvages(Room):
         self.assertEqual(self.salvaged(b"\xff" * 9), Salvaged(0, 0, [LeftOut(0, 9, False)], None))
 
     def test_guess_is_taken_only_where_documents_are_sound(self) -> None:
-        """Four documents by their lengths and last bytes stand before the others; in one of them a boolean is 9."""
+        """Four documents by their lengths and last bytes are before the others; in one of them a boolean is 9."""
         data = PEOPLE.read_bytes()
         for bad in range(4):
             fake = b"".join(b"\x09\0\0\0\x08a\0" + bytes([9 if number == bad else 1]) + b"\0" for number in range(4))
@@ -192,7 +192,7 @@ class Salvages(Room):
         self.assertEqual((done, self.good.read_bytes()), (Salvaged(5000, 0, [left_out], None), sound * 2))
 
     def test_numbers_that_look_like_lengths(self) -> None:
-        """The number of the bytes that are left stands in a document: with the fields after it, it is like a sound document."""
+        """The number of the bytes that are left is in a document: with the fields after it, it is like a sound document."""
         rest = b"\x02name\0\x06\0\0\0hello\0"
         inside = (4 + len(rest) + 1).to_bytes(4, "little") + rest
         for first in (b"\x08a\0\x09", b"\x02s\0\x03\0\0\0\xff\xff\0"):
@@ -228,7 +228,7 @@ class Salvages(Room):
         self.assertEqual(done.left_out, [LeftOut(ends[number], ends[number + 1], True, True) for number in wrong])
 
     def test_documents_that_a_document_holds(self) -> None:
-        """A dump in binary data is a part of its document, which has another fault; that it stands there is reported."""
+        """A dump in binary data is a part of its document, which has another fault; that it is there is reported."""
         people = PEOPLE.read_bytes()[:39978]
         inside = b"\x05b\0" + len(people).to_bytes(4, "little") + b"\0" + people
         for element in (b"\x08a\0\x09", b"\x01d\0" + bytes(8) + b"\x08a\0\x09"):

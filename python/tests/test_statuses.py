@@ -1,4 +1,4 @@
-"""Tests of the statuses of the commands: 0 is good, 1 is a finding, 2 is what could not be done or seen; of those of the program 1 is both."""
+"""Tests of the statuses of the commands: 0 is good, 1 is a finding, 2 is what could not be done or read; of those of the program 1 is both."""
 
 import gzip
 import json
@@ -30,13 +30,13 @@ ONE_RUN = COMMANDS[:3]
 # Those with the statuses of the program, and what each has for what could not be done.
 AS_THE_PROGRAM = ("check", "dump", "find")
 FAILED = {**dict.fromkeys(COMMANDS, 2), **dict.fromkeys(AS_THE_PROGRAM, 1)}
-# What they have where a dump has a fault: what judges it, or stops at it, has found something; what needs all of it could not be done.
+# What they have where a dump has a fault: what checks it, or stops at it, has found something; what needs all of it could not be done.
 OF_A_FAULT = {**dict.fromkeys(COMMANDS, 1), "compare": 2, "ids": 2}
 
 
 class Statuses(Room):
     def words(self, command: str, dump: object) -> List[str]:
-        """The words of a command over a dump."""
+        """The arguments of a command over a dump."""
         return {
             **{name: [name, str(dump)] for name in ("check", "dump", "find", "audit", "query")},
             "salvage": ["salvage", str(dump), "--good", str(self.room / "good"), "--bad", str(self.room / "bad")],
@@ -173,7 +173,7 @@ class Statuses(Room):
             self.assertEqual((run.returncode, run.stderr), (status, "bsonkit: cannot write: standard output is closed\n"), words)
 
     def test_dump_that_is_cut_while_packed(self) -> None:
-        """The file of gzip is what is wrong, and the last document shows it."""
+        """The file of gzip is what is wrong, and its last document is where that is known."""
         cut = self.file(gzip.compress(PEOPLE.read_bytes())[:3000], "cut.bson.gz")
         run = run_package("dump", str(cut))
         documents = len(run.stdout.splitlines())
@@ -183,7 +183,7 @@ class Statuses(Room):
         self.assertEqual((run.returncode, found[1], found[2]), (1, str(documents), str(documents)))
 
     def test_audits_of_directories(self) -> None:
-        """A finding is 1: metadata alone, or none. What was not seen is 2: it may be good or not."""
+        """A finding is 1: metadata alone, or none. What was not read is 2: it may be good or not."""
         backup = self.file(PEOPLE.read_bytes(), "backup/club/people.bson").parents[1]
         self.assertEqual(self.status("audit", str(backup)), 1)  # without metadata
         self.file(b"{}", "backup/club/people.metadata.json")

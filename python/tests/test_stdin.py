@@ -19,7 +19,7 @@ TOLD = {"check": "{} documents, 0 faulty", "dump": "{} objects found", "find": "
 
 class StandardInput(Room):
     def words(self, command: str, name: str) -> List[str]:
-        """The words of a command over a dump."""
+        """The arguments of a command over a dump."""
         outputs = ["--good", str(self.room / "good"), "--bad", str(self.room / "bad")]
         return [*COMMAND, command, name, *(outputs if command == "salvage" else [])]
 

@@ -123,7 +123,7 @@ class Replies(unittest.TestCase):
                 read_batch(cut)
 
     def test_documents_of_random_texts(self) -> None:
-        """Texts are cut where documents end, whatever is in their names and texts."""
+        """Texts are split where documents end, whatever is in their names and texts."""
         chosen = random.Random(5)
         texts = ["", "},{", "{", "}", '"', "\\", '\\"', '},{"a":"', "],", "é\n", '\\\\"{', "x" * 9]
 

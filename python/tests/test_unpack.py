@@ -191,7 +191,7 @@ class Unpacks(Room):
         told = f"bsonkit: A: byte {at + 5000}: the archive ends inside a block\n"
         lines = self.unpack(TWO[: at + 5000], status=1, told=told)
         orders, people = (len(documents_of(self.files()[f"{it}.bson.part"])) for it in ("shop/orders", "club/people"))
-        # The last document of the last block was cut.
+        # The last document of the last block was cut short.
         self.assertEqual(lines[0], f"shop.orders: no end: {orders - 1} documents to O/shop/orders.bson.part")
         self.assertEqual(lines[1], f"club.people: no end: {people} documents to O/club/people.bson.part")
         self.assertEqual(lines[2:], self.table(2, orders + people - 1, 2))
@@ -328,7 +328,7 @@ class Unpacks(Room):
         self.assertEqual((run.returncode, run.stderr), (2, f"bsonkit: {path}/out: Not a directory\n"))
 
     def test_read_that_fails(self) -> None:
-        """What was read before is kept, as of an archive that was cut."""
+        """What was read before is kept, as of an archive that was cut short."""
         reads = [TWO[:100_000], OSError(5, "Input/output error")]
         with mock.patch("bsonfind._dumps.sources.read_some", side_effect=reads):
             done = unpack(self.file(TWO, "a"), self.room / "out")
@@ -526,7 +526,7 @@ class Members(Room):
         self.assertEqual((done.is_good, good.read_bytes()), (True, data))
 
     def test_salvage_of_one_that_was_cut(self) -> None:
-        """Each whole document before the cut is copied."""
+        """Each whole document before the end is copied."""
         at = TWO.index(block_header("club", "people"), 100_000)
         name = self.file(TWO[: at + 5000], "cut")
         good, bad = self.room / "good", self.room / "bad"

@@ -75,7 +75,7 @@ class Commands(Room):
         for data, lines in ((DOUBLE + deep, [LINES[0], line]), (long, [b'{"t":"' + words + b'","d":{"$numberDouble":"1.0"}}'])):
             for word, stdin in self.forms(data):
                 told = self.run_command("dump", word, stdin=stdin)
-                self.assertTrue(told == (0, lines, f"{len(lines)} objects found\n"), (word, told[2]))  # Lines too long to show.
+                self.assertTrue(told == (0, lines, f"{len(lines)} objects found\n"), (word, told[2]))  # Lines too long to print.
                 self.assertEqual(self.run_command("check", word, stdin=stdin), (0, [], f"{len(lines)} documents, 0 faulty\n"))
                 status, found, said = self.run_command("find", word, stdin=stdin)
                 self.assertTrue((status, found) == (0, lines) and said.startswith(f"{len(lines)} documents, end"), (word, said))

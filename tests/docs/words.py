@@ -20,8 +20,6 @@ from pathlib import Path
 
 CRATES = Path(__file__).resolve().parents[2] / "crates"
 PACKAGE = CRATES.parent / "python"
-# Modules that go once `bsonwide` searches dumps with doubles by itself.
-UNREAD = {"copies.py", "codes.py", "queries.py", "hiding.py"}
 
 # Each word that is gone, what to write, and where it stays: crates, or names that have another meaning. A name ends no pattern of crates.
 WORDS = {
@@ -223,7 +221,7 @@ def main() -> int:
             print(f"{source.relative_to(CRATES)}: {fault}")
         failed += len(faults)
         passed += not faults
-    modules = sorted(it for it in (PACKAGE / "bsonfind").rglob("*.py") if it.name not in UNREAD)
+    modules = sorted(PACKAGE.rglob("*.py"))
     for text, faults_in in [*((it, faults_of_module) for it in modules), *((it, faults_of_page) for it in pages())]:
         faults = list(faults_in(text))
         for fault in faults:
