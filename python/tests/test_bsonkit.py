@@ -278,6 +278,7 @@ class Programs(Room):
             (("salvage", plain, "--good", f"{self.room}/g", "--bad", f"{self.room}/b"), 2),
             (("salvage", f"{self.room}/backup", "--out", f"{self.room}/out"), 2), (("compare", plain, plain), 2),
             (("query", plain, wide, "--query", '{"d":1.5}'), 2), (("info", wide), 2), (("grep", "ada", plain), 2), (("ids", wide, "--ids", ids), 2), (("ids", plain, "--ids", ids, "--bson"), 2),
+            (("count", packed), 2), (("schema", packed), 2),
         ]  # fmt: skip
 
     def test_version(self) -> None:
@@ -300,6 +301,13 @@ class Programs(Room):
             starts = self.starts()
             self.assertEqual((starts.count("--version"), starts[0], len(starts) > 1), (1, "--version", True), words)
             (self.room / "starts").unlink()
+
+    def test_development_mode(self) -> None:
+        """There Python warns of nothing, such as of a file that is left open."""
+        unpack = "unpack", str(ROOT / "examples/backup.archive"), str(self.room / "unpacked")
+        for words in (unpack, *(it for it, _ in self.commands())):
+            run = run_package(*words, env={**environment(), "PYTHONDEVMODE": "1"}, stdout=subprocess.DEVNULL)
+            self.assertNotIn("Warning", run.stderr, words)
 
     def test_beside_the_package(self) -> None:
         """The program that was installed with the package comes before those on PATH."""

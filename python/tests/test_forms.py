@@ -2,12 +2,14 @@
 
 import gzip
 import os
+import subprocess
+import sys
 import threading
 from typing import Iterator, List, Tuple
 
 from .archives import archive
 from .goods import GOODS
-from .support import DAMAGED, PEOPLE, Room, run_of_bytes, run_on_terminal
+from .support import DAMAGED, PATIENCE, PEOPLE, Room, environment, run_of_bytes, run_on_terminal
 
 PEOPLE_DATA = PEOPLE.read_bytes()
 # Where the 220th document ends.
@@ -99,6 +101,28 @@ class Forms(Room):
             self.assertIn(f"bsonkit: {junk}: ", told)
         for words in READING:
             self.assertEqual(run_of_bytes(*words, self.room)[::2], (2, f"bsonkit: {self.room}: it is a directory: name the dumps in it\n"))
+
+    def test_memory_does_not_grow_with_the_dump(self) -> None:
+        """It is bounded by what is read at once, here 32 kB, of which both dumps have much more."""
+        code = """
+import sys, tracemalloc
+from unittest import mock
+from bsonfind.__main__ import main
+for name, value in (("_backup.reading._MOST", 1 << 15), ("_backup.grep._MOST", 1 << 15), ("_backup.query.Matching.most", 1 << 15),
+                    ("_dumps.sources._PIECE", 1 << 14), ("_backup.workers.processors", lambda: 2)):
+    mock.patch("bsonfind." + name, value).start()
+for path in sys.argv[-3:]:
+    tracemalloc.start()
+    main([*sys.argv[1:-3], path])
+    print(tracemalloc.get_traced_memory()[1], file=sys.stderr)
+    tracemalloc.stop()
+"""
+        # What the first one takes to import is not compared.
+        paths = [self.file(PEOPLE_DATA * count, f"{count}.bson") for count in (1, 3, 12)]
+        for words in (*READING[1:4], ("schema", "--sample", "50"), ("info",), GREP):
+            run = subprocess.run([sys.executable, "-c", code, *words, *paths], env=environment(), capture_output=True, timeout=PATIENCE)
+            _, less, more = (int(it) for it in run.stderr.split() if it.isdigit() and len(it) > 5)
+            self.assertLess(more, 1.5 * less, words)
 
     def test_terminals(self) -> None:
         """There the columns of a schema have names, and what a slow command has read is said after a second."""
