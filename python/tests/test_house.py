@@ -18,10 +18,11 @@ MOST_IMPORTED, MOST_OWN = 45, 12
 # What reads what a program printed.
 READERS = {
     "lines_of", "faults_of", "all_faults", "finish", "finish_check", "finish_dump", "counted", "read_reply", "read_batch", "documents_in", "document_at",
-    "numbers_in", "error_of", "read_fault", "messages", "lines_of_documents",
+    "error_of", "read_fault", "messages", "lines_of_documents", "texts_of_values", "pack_lines", "each_document", "batches",
 }  # fmt: skip
 # Each place that calls one of them, and what it does with what was printed. None of them decides what is a fault, or what matches.
 PLACES = {
+    "_ask/answers.Answer.__init__": "passes lines or documents on",
     "_ask/connections.Connection.fields": "reads a reply",
     "_ask/decoding.Decoding.batch": "cuts a batch into its documents",
     "_ask/decoding.Parsed.give": "reads a document",
@@ -29,15 +30,25 @@ PLACES = {
     "_ask/lines.Lines.count": "takes the count, which is printed twice, and compares these",
     "_ask/lines.counted": "reads the line of the count; compares it with that of what was printed",
     "_ask/merge._check": "moves the places of faults to those in the whole file",
+    "_ask/merge._joined": "passes documents on",
+    "_ask/merge._packed_answer": "joins documents, for the run that is asked next",
     "_ask/replies.read_batch": "reads a reply",
     "_ask/replies.documents_in": "cuts a batch into its documents",
     "_ask/readings.Reading._read": "reads a reply",
     "_ask/readings.Reading.token": "reads a reply",
     "_dumps/runs.all_faults": "compares the count with that of what was given",
     "_backup/beginnings.Beginnings._undamaged_of": "takes the places after which there is no damage",
+    "_backup/compare._each_document": "takes the count",
+    "_backup/compare.compare": "prints the texts of keys",
+    "_backup/damage._id_of": "prints the text of an id",
+    "_backup/grep._Grep._found": "prints the texts of ids and of fields",
     "_backup/ids.find_ids": "passes lines on; takes a document that dump refuses for one with a fault",
+    "_backup/ids._packed": "takes the bytes of ids; compares how many there are with how many were given",
+    "_backup/query.Matching.of": "passes documents on",
+    "_backup/query._answer": "passes lines on",
     "_backup/reading._Batch.good": "notes faults, and leaves out their documents",
-    "_backup/salvage.Salvaging._documents": "tells documents with a fault from others",
+    "_backup/salvage.Salvaging._documents": "separates documents with a fault from others",
+    "_backup/texts.texts": "prints the texts of values",
     "_command/dumping.Dumping.__init__": "asks no documents, so that refused fields are reported",
     "_command/dumping.Dumping._print": "reads the line of the count; the place of a fault is moved to that in the dump",
     "_command/finding.Finding._print_all": "passes the line of the count on",
@@ -226,6 +237,8 @@ class House(unittest.TestCase):
                 if names_called(node) & READERS:
                     found.add(place)
         self.assertEqual(found, set(PLACES))
+        defined = {place.rpartition(".")[2] for name, tree in modules().items() for place, _ in functions(name, tree)}
+        self.assertEqual(READERS - defined, set())
 
     def test_what_is_decided(self) -> None:
         """Each place that puts in order, counts or adds is listed, with the reason, and so are those that compare; none is listed that is gone."""
