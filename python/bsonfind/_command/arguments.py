@@ -7,7 +7,7 @@ import os
 import re
 
 from .console import NAME, print_text
-from .program import CHOICES, LAYOUT, refusal
+from .program import CHOICES, LAYOUT, MOST, refusal
 
 # As `typing.TYPE_CHECKING`, without `typing`, which takes long to import.
 TYPE_CHECKING = False
@@ -18,8 +18,6 @@ if TYPE_CHECKING:
 
 # The statuses of commands.
 GOOD, FAULTY, FAILED = 0, 1, 2
-# The greatest number that an option takes, as the program has it.
-MOST = 2_147_483_647
 # How many faults of a file `audit` reports one by one.
 MOST_FAULTS = 10
 # The options that may be given several times.

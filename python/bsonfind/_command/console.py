@@ -19,8 +19,8 @@ NAME = "bsonkit"
 _UNITS = ((10**12, "TB"), (10**9, "GB"), (10**6, "MB"), (10**3, "kB"))
 # Characters that a terminal obeys, or that end a line, as they are printed.
 _CONTROL = {it: f"\\x{it:02x}" for it in (*range(0x20), *range(0x7F, 0xA0))}
-# The seconds between two lines of progress.
-_TICK = 0.5
+# The seconds between two lines of progress, and those after which one is printed of what mostly takes less.
+_TICK, PATIENCE = 0.5, 1.0
 
 
 class CannotWrite(Exception):

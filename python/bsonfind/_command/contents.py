@@ -15,16 +15,13 @@ from .._backup.info import COLUMNS, info_of
 from .._backup.search import Wanted
 from .._run.processes import processors
 from .arguments import FAILED, FAULTY, GOOD, Refused
-from .console import Console, Progress, Table
-
-# The seconds after which a line of progress is printed.
-_PATIENCE = 1.0
+from .console import PATIENCE, Console, Progress, Table
 
 
 def print_info(words: argparse.Namespace, names: list[str]) -> int:
     """Prints the collections of a backup, and what is wrong with them."""
     console = Console()
-    entries, done = info_of(names, words.jobs, words.program, lambda files, size: Progress(console, files, size, _PATIENCE))
+    entries, done = info_of(names, words.jobs, words.program, lambda files, size: Progress(console, files, size, PATIENCE))
     if words.json:
         for entry in entries:
             console.line(entry.as_json())
@@ -41,7 +38,7 @@ def print_grep(words: argparse.Namespace, text: str, names: list[str]) -> int:
     console = Console()
     wanted = _wanted(words, text)
     dumps = dumps_of(names)
-    items = grep_dumps(dumps, wanted, words.jobs or processors(), words.program, lambda files, size: Progress(console, files, size, _PATIENCE))
+    items = grep_dumps(dumps, wanted, words.jobs or processors(), words.program, lambda files, size: Progress(console, files, size, PATIENCE))
     table = Table(console, ("file", "documents", "fields") if words.count else ("file", "_id", "path", "value"))
     # Of each dump how many documents and fields have it, if they are counted.
     counts: dict[str, tuple[int, int]] = {}

@@ -16,12 +16,12 @@ from .._backup.workers import Spread
 from .._dumps.paths import Number, Path, is_finite
 from .._run.processes import wide_program
 from .arguments import FAILED, FAULTY, GOOD
-from .console import Console, Progress, Table
+from .console import PATIENCE, Console, Progress, Table
 
 # The columns of a sum, and what is printed of a document without the field.
 _OF_SUMS, _MISSING = ("sum", "NaN", "infinite", "other"), "missing"
-# How many rows are printed at once, and after how many seconds the progress is.
-_MOST_ROWS, _PATIENCE = 10_000, 1.0
+# How many rows are printed at once.
+_MOST_ROWS = 10_000
 Cells = Sequence[str]
 
 
@@ -67,7 +67,7 @@ class Counting:
     def _read(self, take: Take, most: int | None = None) -> tuple[int, bool]:
         """Reads the dumps, says what is wrong with them, and gives the status, and whether one was read."""
         reading, status = Reading(self._program, most), GOOD
-        with Progress(self._console, len(self._names), after=_PATIENCE) as progress:
+        with Progress(self._console, len(self._names), after=PATIENCE) as progress:
             for name in self._names:
                 reading.read(name, take, progress)
         for report in reading.reports:

@@ -11,8 +11,8 @@ from .._run.program import located_wide, says
 
 # The signals that Python ignores by itself, and where `bsonkit` notes which ones the shell ignores, before Python begins.
 _IGNORED, _NOTED = (signal.SIGPIPE, signal.SIGXFSZ), "BSONKIT_IGNORED"
-# What a run of the program reads at most.
-_LARGEST = 4_294_967_295
+# What a run of the program reads at most, and the greatest number that an option takes.
+_LARGEST, MOST = 4_294_967_295, 2_147_483_647
 # The first bytes of what is no plain dump: an archive, or a file of gzip, which may hold one.
 _OTHERS = (b"\x6d\xe2\x99\x81", b"\x1f\x8b")
 # The commands of one plain dump that are those of the program, the one of a text, and the one that reads commands from standard input.
@@ -23,7 +23,7 @@ BY_VALUE = "--byValue"
 CHOICES = {"--type": ("json", "csv"), "--jsonFormat": ("canonical", "relaxed")}
 LAYOUT = (*CHOICES, "--fields", "--noId", "--jsonArray", "--pretty", "--noHeaderLine")
 # The options of these with a text or a number, or with nothing, and those of each command.
-_TEXTS, _NUMBERS, _MOST = ("--query", "--sort", "--index", "--after", "--fields"), ("--skip", "--limit", "--batch"), 2_147_483_647
+_TEXTS, _NUMBERS = ("--query", "--sort", "--index", "--after", "--fields"), ("--skip", "--limit", "--batch")
 _FLAGS, _WITH_VALUES = ("--bson", "--count", *LAYOUT[3:]), (*_TEXTS, *_NUMBERS, *CHOICES)
 _OPTIONS = {"check": (), "dump": LAYOUT, "find": (*_WITH_VALUES, *_FLAGS), PACK: ()}
 # Options that do not go with others, as of the program, and what an option needs beside it.
@@ -110,7 +110,7 @@ def _is_option(name: str, value: str) -> bool:
     if name in CHOICES:
         return value in CHOICES[name]
     if name in _NUMBERS:
-        return value.isascii() and value.isdigit() and len(value) < 100 and int(value) <= _MOST
+        return value.isascii() and value.isdigit() and len(value) < 100 and int(value) <= MOST
     try:
         return name in _TEXTS and os.fsencode(value).decode() is not None
     except UnicodeDecodeError:
