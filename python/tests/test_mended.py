@@ -379,17 +379,37 @@ class Commands(Room):
         ])  # fmt: skip
         files = {str(it.relative_to(out)): it.read_bytes() for it in out.rglob("*") if it.is_file()}
         self.assertEqual(files, {
-            "club/people.bson": PEOPLE.read_bytes(), "club/people.bad": DAMAGED, "club/people.metadata.json": b'{"indexes": []}',
-            "shop/orders.bson": SHOP.read_bytes(), "shop/orders.metadata.json": b'{"indexes": [7]}',
+            "club/people.bson": PEOPLE.read_bytes(), "club/people.bad": DAMAGED, "club/people.metadata.json": b'{"indexes":[]}',
+            "shop/orders.bson": SHOP.read_bytes(), "shop/orders.metadata.json": b'{"indexes":[7]}',
         })  # fmt: skip
         self.assertEqual((out / "club/people.bson").stat().st_mode & 0o777, 0o600)
         self.assertTrue(audit(out / "shop", program=PROGRAM).is_good)
         run = run_package("salvage", str(backup), "--out", str(out))
-        self.assertEqual((run.returncode, len(run.stderr.splitlines()), run.stdout), (2, 2, ""))
+        self.assertEqual((run.returncode, len(run.stderr.splitlines()), run.stdout), (2, 4, ""))
         self.assertIn("File exists", run.stderr)
         for other in (backup, backup / "inside", ""):
             run = run_package("salvage", str(backup), "--out", str(other))
             self.assertEqual((run.returncode, run.stdout), (2, ""))
+
+    def test_salvage_of_all_metadata(self) -> None:
+        """That of a view, of a time series and of a long name too, as it is; what is damaged is reported."""
+        written = {"v": b'{"type":"view","a":1,"a":2}', "w": b'{"type":"timeseries","options":{}}', "x" * 238: b'{"indexes":[]}'}
+        for name, data in written.items():
+            self.file(data, f"backup/club/{name}.metadata.json").chmod(0o600)
+        for name in ("system.buckets.w", "x" * 238):
+            self.file(PEOPLE.read_bytes(), f"backup/club/{name}.bson")
+        out = self.room / "out/club"
+        run = run_package("salvage", str(self.room / "backup"), "--out", str(self.room / "out"))
+        self.assertEqual((run.returncode, run.stderr), (0, ""))
+        self.assertEqual({name: (out / f"{name}.metadata.json").read_bytes() for name in written}, written)
+        self.assertEqual((out / "v.metadata.json").stat().st_mode & 0o777, 0o600)
+        self.assertEqual((len([*out.iterdir()]), audit(out, program=PROGRAM).is_good), (5, True))
+        self.file(b"{", "other/club/v.metadata.json.gz")
+        self.file(b"", "other/club/v.bson")
+        run = run_package("salvage", str(self.room / "other"), "--out", str(self.room / "out2"))
+        self.assertEqual(run.returncode, 2)
+        self.assertIn(f"bsonkit: {self.room}/other/club/v.metadata.json.gz: not a sound file of gzip", run.stderr)
+        self.assertEqual([it.name for it in (self.room / "out2/club").iterdir()], ["v.bson"])
 
     def test_ids_as_they_are_in_the_dump(self) -> None:
         """By --bson, also doubles."""

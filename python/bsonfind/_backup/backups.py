@@ -213,13 +213,11 @@ def collection_of(path: str, metadata: dict[str, Any] | None) -> str:
     return collection if isinstance(collection, str) else unquote(stem_of_file(_METADATA.sub("", os.path.basename(path))))
 
 
-def metadata_below(directory: str) -> Iterator[tuple[str, dict[str, Any]]]:
-    """The files of metadata below a directory that can be read, in the order of their names, with what they say."""
+def metadata_below(directory: str) -> Iterator[tuple[str, dict[str, Any] | None, str | None]]:
+    """The files of metadata below a directory, in the order of their names, with what they say, or what is wrong with them."""
     for inner, _, names in os.walk(directory):
-        for name in sorted(it for it in names if _METADATA.search(it)):
-            metadata, _ = read_metadata_file(os.path.join(inner, name))
-            if metadata is not None:
-                yield os.path.join(inner, name), metadata
+        for path in sorted(os.path.join(inner, it) for it in names if _METADATA.search(it)):
+            yield path, *read_metadata_file(path)
 
 
 def is_oplog(name: str) -> bool:

@@ -81,7 +81,9 @@ def _of_files(reports: Iterable[Report], names: Iterable[str], lists: dict[str, 
     # The metadata of each dump, by the name of this without an ending, or by its own.
     described: dict[str, tuple[str, dict[str, Any]]] = {}
     for directory in filter(os.path.isdir, names):
-        for path, metadata in metadata_below(directory):
+        for path, metadata, _ in metadata_below(directory):
+            if metadata is None:
+                continue
             stem = stem_wanted(path, metadata)
             name = path if stem is None else os.path.join(os.path.dirname(path), stem)
             # That of a time series comes before that of its buckets.
