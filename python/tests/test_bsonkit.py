@@ -4,6 +4,7 @@ import argparse
 import gzip
 import os
 import re
+import resource
 import signal
 import subprocess
 import sys
@@ -260,10 +261,20 @@ class Becoming(Room):
                 self.assertEqual(ignored([*shell, *command]), ignored([*shell, "grep", "SigIgn", "/proc/self/status"]), (trap, command))
 
     def test_time(self) -> None:
-        """A plain file takes few calls beside the start of Python."""
-        code = "import sys\nfrom bsonfind.__main__ import main\nsys.argv[1:] = ['check', sys.argv[1]]\nmain()"
-        run = subprocess.run([sys.executable, "-c", code, str(PEOPLE)], env=environment(), stderr=subprocess.PIPE, text=True)
-        self.assertEqual((run.returncode, run.stderr), (0, "500 documents, 0 faulty\n"))
+        """Beside the start of Python `--help` takes less processor time than two more of them, and a plain file less than one."""
+
+        def seconds(*words: str) -> float:
+            times = []
+            for _ in range(5):
+                before = resource.getrusage(resource.RUSAGE_CHILDREN)
+                subprocess.run([sys.executable, *words], env=environment(), stdout=subprocess.DEVNULL, stderr=subprocess.DEVNULL, check=True)
+                after = resource.getrusage(resource.RUSAGE_CHILDREN)
+                times.append(after.ru_utime + after.ru_stime - before.ru_utime - before.ru_stime)
+            return min(times)
+
+        start = seconds("-c", "pass")
+        self.assertLess(seconds("-m", "bsonfind", "--help"), 3 * start)
+        self.assertLess(seconds(*COMMAND[1:], "check", str(PEOPLE)), 2 * start)
 
 
 class Programs(Room):
