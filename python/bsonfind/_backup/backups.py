@@ -17,7 +17,8 @@ from .._dumps.archive import Listed, kind_of, parsed
 from .._dumps.archive_frames import Namespace, joined_pieces
 from .._dumps.files import file_of, is_whole_archive, member_of
 from .._dumps.gzip import unpacked
-from .._errors import DumpError, FileError, why
+from .._dumps.outputs import naming
+from .._errors import DumpError, why
 
 OPLOG = Namespace("", "oplog")
 _ENDING = re.compile(r"\.bson(\.gz)?$")
@@ -142,11 +143,8 @@ def _file_among(entry: os.DirEntry[str], directory: str, stems: set[str]) -> Dum
 def text_lines(path: File) -> list[str]:
     """The lines of a file; bytes that are not UTF-8 stay as they are in names."""
     name = name_of(path)
-    try:
-        with open(name, encoding="utf-8", errors="surrogateescape", newline="\n") as file:
-            return file.read().split("\n")
-    except OSError as error:
-        raise FileError(error.errno, error.strerror, name) from None
+    with naming(name), open(name, encoding="utf-8", errors="surrogateescape", newline="\n") as file:
+        return file.read().split("\n")
 
 
 def read_log(lines: Iterable[str]) -> dict[str, int]:

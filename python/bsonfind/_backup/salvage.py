@@ -8,7 +8,7 @@ from contextlib import ExitStack, contextmanager, nullcontext
 from typing import Callable, ContextManager, Generator, Iterator, NamedTuple, Union
 
 from .._arguments import File, name_of
-from .._dumps.outputs import NewOutput, Output, is_same, refuse_names
+from .._dumps.outputs import NewOutput, Output, is_same, naming, refuse_names
 from .._dumps.runs import all_faults, checking
 from .._dumps.sources import Source
 from .._errors import ArgumentError, BsonfindError, DumpError, FileError, why
@@ -292,8 +292,6 @@ def _copy_metadata(path: str, name: str) -> None:
 
 def _new_output(stem: str, ending: str, source: Source, part: str | None = None) -> NewOutput:
     """A new file with the rights of a source, in a directory that is made if it is not there; and its ending while it is not whole."""
-    try:
+    with naming(os.path.dirname(stem)):
         os.makedirs(os.path.dirname(stem), exist_ok=True)
-    except OSError as error:
-        raise FileError(error.errno, error.strerror, os.path.dirname(stem)) from None
     return NewOutput(stem + ending, stem + (part or ending + _PART), source.mode)

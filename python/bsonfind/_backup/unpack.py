@@ -12,7 +12,7 @@ from .._dumps.archive import Archive, Documents, End, why_none
 from .._dumps.archive_frames import Namespace
 from .._dumps.files import member_of
 from .._dumps.gzip import UnpackError
-from .._dumps.outputs import NewOutput, refuse_there
+from .._dumps.outputs import NewOutput, naming, refuse_there
 from .._dumps.sources import Source
 from .._errors import ArgumentError, DumpError, FileError, why
 from .backups import stem_of
@@ -175,10 +175,8 @@ class _Unpacking:
             missing.append(above)
             above = os.path.dirname(above)
         for directory in reversed(missing):
-            try:
+            with naming(directory):
                 os.mkdir(directory)
-            except OSError as error:
-                raise FileError(error.errno, error.strerror, directory) from None
             self._stack.callback(_remove_empty, directory)
         file = NewOutput(name + endings[0], name + endings[1], self._mode)
         self._stack.enter_context(file)

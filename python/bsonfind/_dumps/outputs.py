@@ -32,6 +32,15 @@ def is_same(one: str, other: str) -> bool:
     return os.path.realpath(one) == os.path.realpath(other)
 
 
+@contextmanager
+def naming(name: str) -> Iterator[None]:
+    """Has errors of the system name a file as it was given."""
+    try:
+        yield
+    except OSError as error:
+        raise FileError(error.errno, error.strerror, name) from None
+
+
 class Output(AbstractContextManager["Output"]):
     """A file that is written under another name beside it, and gets its name at the end. A device or pipe is written as it is."""
 
@@ -39,7 +48,7 @@ class Output(AbstractContextManager["Output"]):
         """A file that is there keeps its rights; a new one may be given those of what it is a copy of."""
         self.name = name
         self._path = self._beside = os.path.realpath(name)
-        with self._naming():
+        with naming(self.name):
             if not name:
                 raise OSError(errno.ENOENT, "an empty name")  # such as of a variable that is not set
             if os.path.isdir(name) or name.endswith(os.sep):
@@ -65,34 +74,26 @@ class Output(AbstractContextManager["Output"]):
             os.unlink(self._beside)
             raise
 
-    @contextmanager
-    def _naming(self) -> Iterator[None]:
-        """Has errors of the system name the file as it was given."""
-        try:
-            yield
-        except OSError as error:
-            raise FileError(error.errno, error.strerror, self.name) from None
-
     def write(self, data: bytes | memoryview) -> None:
-        with self._naming():
+        with naming(self.name):
             self._file.write(data)
 
     def complete(self) -> None:
         """Has all bytes on the disk."""
-        with self._naming():
+        with naming(self.name):
             self._file.flush()
             if self._beside != self._path:
                 os.fsync(self._file.fileno())
 
     def put_in_place(self) -> None:
         if self._beside != self._path:
-            with self._naming():
+            with naming(self.name):
                 os.replace(self._beside, self._path)
             self._beside = self._path
 
     def __exit__(self, kind: object, *_: object) -> None:
         try:
-            with self._naming():
+            with naming(self.name):
                 self._file.close()
         except FileError:
             if kind is None:
@@ -109,7 +110,7 @@ class NewOutput(Output):
         self.name = self._path = name
         self._beside = part
         refuse_there(name, part)
-        with self._naming():
+        with naming(self.name):
             self._create(mode)
 
     @property
@@ -123,7 +124,7 @@ class NewOutput(Output):
 
     def put_in_place(self) -> None:
         """Gives the file its name, unless something has it by now."""
-        with self._naming():
+        with naming(self.name):
             try:
                 os.link(self._beside, self.name)
             except OSError as error:
