@@ -156,12 +156,12 @@ scientific_bare : (ds : List ℕ) (exponent : ℤ) → Unbroken ds → Unbroken 
 unfolding scientific_string
 scientific_bare ds exponent h =
     let power = adjusted_exponent ds exponent in
-    let places = unsigned_abs exponent in
-    let p = parts (length ds - places) ds h in
+    let count = unsigned_abs exponent in
+    let p = parts (length ds - count) ds h in
     either (int_le exponent (pos 0) && int_le (neg_ℤ (pos 6)) power) _ (mantissa ds ++ power_text power)
-    (either (places == 0) ds _ h
-    (either (nat_lt places (length ds)) (take (length ds - places) ds ++ (codes "." ++ drop (length ds - places) ds)) (codes "0." ++ (zeros (places - length ds) ++ ds))
-    (both (take (length ds - places) ds) (codes "." ++ drop (length ds - places) ds) p.0 p.1) (both (zeros (places - length ds)) ds (zeros_bare (places - length ds)) h)))
+    (either (count == 0) ds _ h
+    (either (nat_lt count (length ds)) (take (length ds - count) ds ++ (codes "." ++ drop (length ds - count) ds)) (codes "0." ++ (zeros (count - length ds) ++ ds))
+    (both (take (length ds - count) ds) (codes "." ++ drop (length ds - count) ds) p.0 p.1) (both (zeros (count - length ds)) ds (zeros_bare (count - length ds)) h)))
     (both (mantissa ds) (power_text power) (mantissa_bare ds h) (power_bare power))
 
 size_bare : (low high : ℕ) → Unbroken (decimal128_size low high)

@@ -17,7 +17,7 @@ use Rattle.fast_float.proofs.Rows.{AllDigits-take, AllDigits-drop, AllDigits-app
 use Rattle.bd_wide_number.specs.Decimal128.{five_bits, coefficient_of, biased_exponent}
 use Rattle.bd_wide_text.specs.Layout.{mantissa, zeros}
 use Rattle.bd_wide_text.specs.Decimal128.{decimal128_size, decimal128_text, exponent_of, scientific_string}
-use Rattle.bd_wide_text.specs.inside.BiasedText.{biased_power_text, biased_string}
+use Rattle.bd_wide_text.specs.BiasedText.{biased_power_text, biased_string}
 use Rattle.bd_wide_text.proofs.Decimal128Lemmas.{biased_is, size_is as text_size_is}
 use Rattle.bd_wide_read.specs.declared.fault.TextFault.{TextFault}
 use Rattle.bd_wide_read.specs.declared.fault.TextFault.TheVariants.{BadText, OutOfRange}

@@ -6,8 +6,9 @@ use borrow.Author.Tests.{lt-ltb, le-ltb, lt-leb, le-leb}
 use Rattle.std.specs.Fmt.{decimal, digits}
 use Rattle.bd_wide_number.specs.Decimal128.{five_bits, coefficient_of, biased_exponent}
 use Rattle.bd_wide_text.specs.Decimal128.{decimal128_text, decimal128_size, scientific_string}
-use Rattle.bd_wide_text.specs.inside.BiasedText.{biased_string}
+use Rattle.bd_wide_text.specs.BiasedText.{biased_string}
 
+-- a coefficient has a digit
 pub some_digits : (n : ℕ) → n < 10 ^ 34 → 0 < length (decimal n)
 some_digits n few = (decimal_is_IsNumeral_wide n (omega arith)).0.0
 

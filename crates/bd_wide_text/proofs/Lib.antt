@@ -1,5 +1,5 @@
-pub mod CutLemmas
-pub mod CutTextLemmas
+pub mod LimitedLemmas
+pub mod LimitedTextLemmas
 pub mod Decimal128Lemmas
 pub mod DoubleLemmas
 pub mod LayoutLemmas

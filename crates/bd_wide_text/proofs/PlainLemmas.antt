@@ -31,7 +31,7 @@ use Rattle.bd_wide_number.specs.Value.{magnitude, spelled}
 use Rattle.bd_wide_number.proofs.ValueLemmas.{rises}
 use Rattle.bd_wide_text.specs.Double.{IsTextOf, IsDoubleText}
 use Rattle.bd_wide_text.specs.Layout.{zeros}
-use Rattle.bd_wide_text.specs.inside.Cut.{HasNone, IsShort}
+use Rattle.bd_wide_text.specs.inside.Limited.{HasNone, IsShort}
 use Rattle.bd_wide_text.specs.inside.LaidOutAnew.{AreParts, IsLaidOutAnew, IsMiddling, IsSized, AreZerosBefore, AreZerosAfter, small_text, large_text}
 use Rattle.bd_wide_text.proofs.DoubleLemmas.{by_digits, first_digit, sized, parts_of, nearest_of}
 use Rattle.bd_wide_text.proofs.LayoutLemmas.{near, nothing, small, small_value, large, short_exponent, far_first, leading_large, above_zero, whole_is, value_decimal}
@@ -206,13 +206,13 @@ short_size false text size is other few =
     let none : (get_or text 0 0 == 45) ≡ false = ap (λ t. get_or t 0 0 == 45) is ∙ other in
     omega (arith, ap (λ t. length t) is, subst (λ (b : Bool). length text ≤ 18 + cond b 1 0) none few)
 
--- the bytes at the front that are no digit other than 0 end at the latest where one comes
-none_beyond : (front back text : List ℕ) (k count : ℕ) → text ≡ front ++ back → HasNone text count → 48 < get_or back k 0 → count ≤ length front + k
-none_beyond front back text k count is none some = elim (cases_lt (length front + k) count) [
+-- the bytes at the leading that are no digit other than 0 end at the latest where one comes
+none_beyond : (leading back text : List ℕ) (k count : ℕ) → text ≡ leading ++ back → HasNone text count → 48 < get_or back k 0 → count ≤ length leading + k
+none_beyond leading back text k count is none some = elim (cases_lt (length leading + k) count) [
   | inr few ↦ few
   | inl more ↦
-      let at : get_or text (length front + k) 0 ≡ get_or back k 0 = ap (λ t. get_or t (length front + k) 0) is ∙ get_or-append-add front back k 0 in
-      absurd (omega (arith, none (length front + k) more))
+      let at : get_or text (length leading + k) 0 ≡ get_or back k 0 = ap (λ t. get_or t (length leading + k) 0) is ∙ get_or-append-add leading back k 0 in
+      absurd (omega (arith, none (length leading + k) more))
 ]
 
 module _ (s : Bool) (text size : List ℕ) (p : Parts) (parts : AreParts size p) (is : text ≡ sign_text s ++ size) (none : p.exponent ≡ []) where
@@ -234,19 +234,19 @@ module _ (s : Bool) (text size : List ℕ) (p : Parts) (parts : AreParts size p)
 
   few_small : (count : ℕ) → HasNone text count → length text ≤ 17 + count → get_or p.whole 0 0 ≡ 48 → digits_of p < 10 ^ 17
   few_small count zeros_are few first =
-      let front = sign_text s ++ (48 ∷ 46 ∷ []) in
+      let leading = sign_text s ++ (48 ∷ 46 ∷ []) in
       let whole = whole_is size p parts first in
-      let splits : text ≡ front ++ p.fraction =
+      let splits : text ≡ leading ++ p.fraction =
       is ∙ ap (λ t. sign_text s ++ t) ((near size p parts none).text ∙ ap (λ w. w ++ (46 ∷ p.fraction)) whole) ∙ sym (append_assoc (sign_text s) (48 ∷ 46 ∷ []) p.fraction) in
       let found = zeros_first p.fraction in
       let n = found.0 in
       let rest = drop n p.fraction in
       let fraction_digits = parts.plain.well_formed.fraction_digits in
-      let all = length-append front p.fraction in
-      let as_text : length text ≡ length (front ++ p.fraction) = ap (λ t. length t) splits in
+      let all = length-append leading p.fraction in
+      let as_text : length text ≡ length (leading ++ p.fraction) = ap (λ t. length t) splits in
       let most : length rest ≤ 17 = elim (cases_lt n (length p.fraction)) [
         | inr beyond ↦ omega (arith, length-drop n p.fraction)
-        | inl inside ↦ omega (arith, length-drop n p.fraction, none_beyond front p.fraction text n count splits zeros_are (above_zero p.fraction n fraction_digits inside (found.1.next inside)))
+        | inl inside ↦ omega (arith, length-drop n p.fraction, none_beyond leading p.fraction text n count splits zeros_are (above_zero p.fraction n fraction_digits inside (found.1.next inside)))
       ] in
       omega (arith, small_value size p n parts first found.1, few_in rest (AllDigits-drop n p.fraction fraction_digits) most)
 

@@ -13,7 +13,7 @@ abbrev pub power_text : ℤ → List ℕ
 power_text (pos n) = codes "E+" ++ decimal n
 power_text (negsuc k) = codes "E-" ++ decimal (k + 1)
 
--- the digits with so many of them after a point: zeros are put before them as needed,
+-- the digits with that many of them after a point: zeros are put before them as needed,
 -- and a 0 before the point if no digit is there
 abbrev pub with_places : List ℕ → ℕ → List ℕ
 with_places digits places =

@@ -6,7 +6,7 @@ use Rattle.std.specs.Float.Ieee.{Float, nan, inf, fin, round, of_bits}
 use Rattle.std.specs.Float.{binary64}
 use Rattle.bd_wide_text.specs.Layout.{mantissa, zeros}
 
--- The digits begin and end with one that is not 0, and are at most 17: so many are enough for each double.
+-- The digits begin and end with one that is not 0, and are at most 17, which are enough for each double.
 pub record AreSignificant (digits : List ℕ) : Type 0 where
   pub all : AllDigits 10 digits
   pub first : 48 < slice_index digits 0

@@ -1,3 +1,4 @@
+pub mod BiasedText
 pub mod Decimal128
 pub mod Double
 pub mod Layout

@@ -1,3 +1,2 @@
-pub mod BiasedText
-pub mod Cut
+pub mod Limited
 pub mod LaidOutAnew

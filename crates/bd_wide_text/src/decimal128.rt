@@ -3,7 +3,7 @@
 ghost use Rattle.std.specs.Prelude.{◌≡◌, ◌<◌, ◌≤◌, ◌^◌, ◌++◌, length, OnErr, OnOk};
 ghost use Rattle.std.specs.Io.{StartsWith};
 ghost use Rattle.bd_wide_text.specs.Decimal128.{decimal128_size, decimal128_text};
-ghost use Rattle.bd_wide_text.specs.inside.BiasedText.{biased_power_text, biased_string};
+ghost use Rattle.bd_wide_text.specs.BiasedText.{biased_power_text, biased_string};
 
 use crate::layout::{write_mantissa, write_zeros};
 use bd_value::NoMemory;
@@ -41,7 +41,7 @@ fn write_size(low: u64, high: u64, out: &mut Vec<u8>) -> Result<(), NoMemory>
 }
 
 /// Appends the number with these digits, times the power of ten that is 6176 below `biased`.
-#[tactic(auto, using(bd_value::proofs::PrefixLemmas::prefixes), unfolding(crate::specs::inside::BiasedText::biased_string))]
+#[tactic(auto, using(bd_value::proofs::PrefixLemmas::prefixes), unfolding(crate::specs::BiasedText::biased_string))]
 fn write_scientific_string(digits: &[u8], biased: usize, out: &mut Vec<u8>) -> Result<(), NoMemory>
     requires digits { (0 < length digits.now) × (length digits.now ≤ 40) }
     requires biased { biased < 2 ^ 14 }

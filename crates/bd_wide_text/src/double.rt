@@ -9,8 +9,8 @@ ghost use Rattle.bd_wide_text.specs.Double.{IsDoubleText, padded};
 ghost use Rattle.bd_wide_text.specs.inside.LaidOutAnew.{AreParts, AreZerosAfter, AreZerosBefore, IsLaidOutAnew, IsMiddling, IsSized, large_text, small_text};
 ghost use Rattle.bd_wide_text.specs.Layout.{Adds, mantissa};
 
-use crate::cut::{put_cut, too_many};
 use crate::layout::{put, put_mantissa};
+use crate::limited::{put_limited, too_many};
 use crate::plain::{is_middling, put_plain};
 use bd_value::NoMemory;
 use fast_float::Numeral;
@@ -135,7 +135,7 @@ fn put_size(size: &[u8], buffer: &mut [u8], end: usize) -> usize
 {
     let numeral = Numeral::scan(size);
     match too_many(numeral.whole(), numeral.fraction()) {
-        Some(zeros) => put_cut(&numeral, zeros, buffer, end),
+        Some(zeros) => put_limited(&numeral, zeros, buffer, end),
         None => put_few(size, &numeral, buffer, end),
     }
 }
@@ -143,7 +143,7 @@ fn put_size(size: &[u8], buffer: &mut [u8], end: usize) -> usize
 /// The same, if there are at most 17 digits.
 fn put_few(size: &[u8], numeral: &Numeral, buffer: &mut [u8], end: usize) -> usize
     requires parts { AreParts size.now numeral.now }
-    requires few { digits_of numeral.now < 10 ^ 17 }
+    requires digits { digits_of numeral.now < 10 ^ 17 }
     requires space { end + 32 ≤ length buffer.old }
     ensures appended { Adds (IsLaidOutAnew numeral.now) (take end buffer.old)
         (take result buffer.new) }

@@ -13,17 +13,17 @@
 //! - `double`: `write_double`, and `put_double`, which writes into a buffer, by the digits that `ryu` finds
 //!   (`specs/inside/LaidOutAnew.antt`).
 //! - `plain`: doubles whose text has no power of ten.
-//! - `cut`: more than 17 digits from `ryu`, of which no case is known, are cut to 17 (`specs/inside/Cut.antt`).
+//! - `limited`: more than 17 digits from `ryu`, of which no case is known, are limited to 17 (`specs/inside/Limited.antt`).
 //! - `decimal128`: `write_decimal128`.
 //! - `layout`: what both use, and `put`, which writes bytes into a buffer.
 //! - `laws`: the text of a double is read back as the double.
 #![tactic(auto)]
 
-mod cut;
 mod decimal128;
 mod double;
 mod laws;
 mod layout;
+mod limited;
 mod plain;
 
 pub use decimal128::write_decimal128;

@@ -2,7 +2,7 @@
 
 ghost use Rattle.std.specs.Prelude.{◌≡◌, ◌≤◌, ◌+◌, length, take, IsTrue, IfSome};
 ghost use Rattle.bd_wide_text.specs.Double.{IsDoubleText};
-ghost use Rattle.bd_wide_text.specs.inside.Cut.{HasNone, IsShort};
+ghost use Rattle.bd_wide_text.specs.inside.Limited.{HasNone, IsShort};
 ghost use Rattle.bd_wide_text.specs.inside.LaidOutAnew.{IsMiddling};
 ghost use Rattle.bd_wide_text.specs.Layout.{Adds};
 
@@ -60,7 +60,7 @@ fn put_first(bits: u64, buffer: &mut [u8]) -> Option<usize>
     Some(count)
 }
 
-/// Whether a text shows by its length that it has at most 17 digits.
+/// Whether a text has at most 17 digits by its length alone.
 #[inline(always)]
 fn is_short(text: &[u8]) -> bool
     ensures { IsTrue result → IsShort text.now }

@@ -14,7 +14,7 @@ returns-then-is_exponent_negative-clause-appended c =
     let x : c.exponent-exponent.result.now ≡ p.exponent = c.exponent-exponent.ensures.value in
     let sign : p.exponent_negative ≡ true = sym (c.is_exponent_negative.ensures) ∙ c.if-is_exponent_negative.true in
     let some : 0 < length p.exponent = subst (λ (y : List ℕ). 0 < length y) x (doubles.some_of c.exponent-exponent.result.now c.is_empty.result c.is_empty.ensures c.if-not-is_empty.true) in
-    (_, layouts.far_down c.args.size.now p c.requires.parts c.requires.few some sign, c.put_scientific.ensures.appended ∙ (λ i. take c.args.end c.args.buffer.now ++ (mantissa (w i ++ f i) ++ (codes "E-" ++ padded (x i)))))
+    (_, layouts.far_down c.args.size.now p c.requires.parts c.requires.digits some sign, c.put_scientific.ensures.appended ∙ (λ i. take c.args.end c.args.buffer.now ++ (mantissa (w i ++ f i) ++ (codes "E-" ++ padded (x i)))))
 
 pub returns-then-not-is_empty-clause-appended : goal.returns-then-not-is_empty-clause-appended
 returns-then-not-is_empty-clause-appended c =
@@ -24,7 +24,7 @@ returns-then-not-is_empty-clause-appended c =
     let x : c.exponent-exponent.result.now ≡ p.exponent = c.exponent-exponent.ensures.value in
     let sign : p.exponent_negative ≡ false = sym (c.is_exponent_negative.ensures) ∙ c.if-is_exponent_negative.false in
     let some : 0 < length p.exponent = subst (λ (y : List ℕ). 0 < length y) x (doubles.some_of c.exponent-exponent.result.now c.is_empty.result c.is_empty.ensures c.if-not-is_empty.true) in
-    (_, layouts.far_up c.args.size.now p c.requires.parts c.requires.few some sign, c.put_scientific-then-not-is_empty.ensures.appended ∙ (λ i. take c.args.end c.args.buffer.now ++ (mantissa (w i ++ f i) ++ (codes "E+" ++ padded (x i)))))
+    (_, layouts.far_up c.args.size.now p c.requires.parts c.requires.digits some sign, c.put_scientific-then-not-is_empty.ensures.appended ∙ (λ i. take c.args.end c.args.buffer.now ++ (mantissa (w i ++ f i) ++ (codes "E+" ++ padded (x i)))))
 
 pub returns-then-whole-eq48-clause-appended : goal.returns-then-whole-eq48-clause-appended
 returns-then-whole-eq48-clause-appended c =
@@ -35,7 +35,7 @@ returns-then-whole-eq48-clause-appended c =
     let none : p.exponent ≡ [] = sym x ∙ doubles.none_of c.exponent-exponent.result.now c.is_empty.result c.is_empty.ensures c.if-not-is_empty.false in
     let first : get_or p.whole 0 0 ≡ 48 = ap (λ y. get_or y 0 0) (sym w) ∙ c.if-whole-eq48.true in
     let before : AreZerosBefore p.fraction c.zeros_before.result = subst (λ (y : List ℕ). AreZerosBefore y c.zeros_before.result) f c.zeros_before.ensures in
-    (_, layouts.small c.args.size.now p c.zeros_before.result c.requires.parts c.requires.few none first before, c.put_small.ensures.appended ∙ (λ i. take c.args.end c.args.buffer.now ++ small_text c.args.size.now (f i) c.zeros_before.result))
+    (_, layouts.small c.args.size.now p c.zeros_before.result c.requires.parts c.requires.digits none first before, c.put_small.ensures.appended ∙ (λ i. take c.args.end c.args.buffer.now ++ small_text c.args.size.now (f i) c.zeros_before.result))
 
 pub returns-else-whole-eq48-clause-appended : goal.returns-else-whole-eq48-clause-appended
 returns-else-whole-eq48-clause-appended c =
@@ -46,7 +46,7 @@ returns-else-whole-eq48-clause-appended c =
     let none : p.exponent ≡ [] = sym x ∙ doubles.none_of c.exponent-exponent.result.now c.is_empty.result c.is_empty.ensures c.if-not-is_empty.false in
     let first : get_or p.whole 0 0 ≢ 48 = λ e. c.if-whole-eq48.false (ap (λ y. get_or y 0 0) w ∙ e) in
     let after : AreZerosAfter p.whole c.without_zeros.result = subst (λ (y : List ℕ). AreZerosAfter y c.without_zeros.result) w c.without_zeros.ensures in
-    (_, layouts.large c.args.size.now p c.without_zeros.result c.requires.parts c.requires.few none after first, c.put_large.ensures.appended ∙ (λ i. take c.args.end c.args.buffer.now ++ large_text c.args.size.now (w i) (f i) c.without_zeros.result))
+    (_, layouts.large c.args.size.now p c.without_zeros.result c.requires.parts c.requires.digits none after first, c.put_large.ensures.appended ∙ (λ i. take c.args.end c.args.buffer.now ++ large_text c.args.size.now (w i) (f i) c.without_zeros.result))
 
 pub put_scientific-requires-clause-short : goal.put_scientific-requires-clause-short
 put_scientific-requires-clause-short c =

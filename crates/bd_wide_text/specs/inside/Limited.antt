@@ -1,4 +1,4 @@
--- Digits that are too many for a double, cut: used only in proofs.
+-- Digits that are too many for a double, limited: used only in proofs.
 use Rattle.std.specs.Prelude.{◌≡◌, ◌<◌, ◌≤◌, ◌⊎◌, ℕ, ◌+◌, ◌*◌, ◌^◌, ◌==◌, ℤ, Bool, false, List, length, take, slice_index, if◌then◌else◌}
 use Rattle.std.specs.Char.{digit_value}
 use Rattle.std.specs.Str.Parse.{digits_value}
@@ -13,7 +13,7 @@ pub record AreTooMany (digits : List ℕ) (zeros : ℕ) : Type 0 where
   pub zeros_are : digits_value 10 (take zeros digits) ≡ 0
   pub first : 0 < digit_value (slice_index digits zeros)
 
--- No byte is a digit other than 0 among so many at the front.
+-- None of that many first bytes is a digit other than 0.
 abbrev pub HasNone : List ℕ → ℕ → Type 0
 HasNone text count = (k : ℕ) → k < count → slice_index text k ≤ 48
 
@@ -21,18 +21,18 @@ HasNone text count = (k : ℕ) → k < count → slice_index text k ≤ 48
 abbrev pub IsShort : List ℕ → Type 0
 IsShort text = (length text ≤ 18 + (if slice_index text 0 == 45 then 1 else 0)) ⊎ ((count : ℕ) × HasNone text count × (length text ≤ 17 + count))
 
--- The double is the nearest to a number from `front` to one more, times 10 ^ up / 10 ^ down.
-pub record IsCutTo (front up down : ℕ) (x : Float) : Type 0 where
+-- The double is the nearest to a number from `leading` to one more, times 10 ^ up / 10 ^ down.
+pub record IsLimitedTo (leading up down : ℕ) (x : Float) : Type 0 where
   pub number : ℕ
-  pub from : front * 10 ^ up ≤ number
-  pub to : number ≤ (front + 1) * 10 ^ up
+  pub from : leading * 10 ^ up ≤ number
+  pub to : number ≤ (leading + 1) * 10 ^ up
   pub nearest : round binary64 false number (10 ^ down) ≡ x
 
--- The digits are cut to 17 of them.
-pub record IsCut (p : Parts) (front up down : ℕ) : Type 0 where
-  pub digits : (10 ^ 16 ≤ front) × (front < 10 ^ 17)
+-- The digits are limited to 17 of them.
+pub record IsLimited (p : Parts) (leading up down : ℕ) : Type 0 where
+  pub digits : (10 ^ 16 ≤ leading) × (leading < 10 ^ 17)
   pub powers : (up < 10 ^ 8) × (down < 10 ^ 8)
-  pub cut : IsCutTo front up down (nearest binary64 false p)
+  pub limited : IsLimitedTo leading up down (nearest binary64 false p)
 
 -- The text is that of n * 10 ^ up / 10 ^ down.
 abbrev pub IsLaidOutAs : ℕ → ℕ → ℕ → List ℕ → Type 0

@@ -1,6 +1,6 @@
 use Rattle.std.proofs.Common.{arith, ◌+◌, ◌++◌, take, ap, ◌∙◌}
-use Rattle.bd_wide_text.proofs.CutTextLemmas.{short_power, laid_down, laid_near, three}
-use Rattle.bd_wide_text.proofs.cut.put_down.Goals as goal
+use Rattle.bd_wide_text.proofs.LimitedTextLemmas.{short_power, laid_down, laid_near, three}
+use Rattle.bd_wide_text.proofs.limited.put_down.Goals as goal
 
 pub put_scientific-requires-clause-short : goal.put_scientific-requires-clause-short
 put_scientific-requires-clause-short c =

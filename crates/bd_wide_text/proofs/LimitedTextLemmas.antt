@@ -1,4 +1,4 @@
--- A number of 17 digits at most as text, and the digits that are cut.
+-- A number of 17 digits at most as text, and the digits that are limited.
 use Rattle.std.proofs.Common.{◌≡◌, ◌≢◌, ◌<◌, ◌≤◌, ℕ, ◌+◌, ◌-◌, ◌*◌, ◌/◌, ◌%◌, ◌^◌, Bool, true, false, cond, pos, negsuc, List, [], ◌∷◌, ◌++◌, length, take, drop, get_or, refl, sym, ap, ◌∙◌, subst, inl, inr, arith, codes, ltb, length-append, append-nil, append_assoc}
 use Rattle.std.proofs.lemmas.Bool.{cases_lt}
 use Rattle.std.proofs.lemmas.Fmt.{decimal_is_IsNumeral, decimal_digit, decimal_nonempty, decimal_step, first_decimal, length-decimal-le}
@@ -15,10 +15,10 @@ use lib.Pow.{pow-add}
 use Rattle.fast_float.specs.Text.{Parts, digits_of, tens_up, tens_down, nearest}
 use Rattle.fast_float.proofs.Patterns.{neg-round}
 use Rattle.fast_float.proofs.ExactLemmas.{ten_to_pos}
-use Rattle.fast_float.proofs.Rows.{AllDigits-append, IsFront, front as front_bounds, front_large, value_below}
+use Rattle.fast_float.proofs.Rows.{AllDigits-append, IsFront, front as leading_bounds, front_large, value_below}
 use Rattle.bd_wide_text.specs.Double.{AreSignificant, nearest_double, laid_out, padded}
 use Rattle.bd_wide_text.specs.Layout.{mantissa, zeros}
-use Rattle.bd_wide_text.specs.inside.Cut.{AreTooMany, IsCut, IsCutTo, IsLaidOutAs}
+use Rattle.bd_wide_text.specs.inside.Limited.{AreTooMany, IsLimited, IsLimitedTo, IsLaidOutAs}
 use Rattle.bd_wide_text.specs.inside.LaidOutAnew.{IsLaidOutAnew}
 use Rattle.bd_wide_text.proofs.LayoutLemmas.{same_tens, last_of}
 
@@ -91,9 +91,11 @@ module _ (ds : List ℕ) (n z kept up down : ℕ) (is : ds ≡ decimal n) (same 
 pub six_zeros : (n : ℕ) → n ≤ 6 → take n (48 ∷ 48 ∷ 48 ∷ 48 ∷ 48 ∷ 48 ∷ []) ≡ zeros n
 six_zeros n few = take-replicate n 6 48 few
 
+-- a number below 10 ^ 10 has at most ten digits
 pub short_power : (text made : List ℕ) (n : ℕ) → text ≡ made → made ≡ decimal n → n < 10 ^ 10 → length text ≤ 10
 short_power text made n is written few = omega (arith, ap (λ t. length t) is, ap (λ t. length t) written, length-decimal-le 10 n (omega arith) few (omega arith))
 
+-- three parts are appended, one after the other
 pub three : (a b c d x y z : List ℕ) → b ≡ a ++ x → c ≡ b ++ y → d ≡ c ++ z → d ≡ a ++ (x ++ (y ++ z))
 three a b c d x y z p q r = r ∙ ap (λ t. t ++ z) (q ∙ ap (λ t. t ++ y) p) ∙ append_assoc (a ++ x) y z ∙ append_assoc a x (y ++ z)
 
@@ -117,28 +119,28 @@ pub laid_near : (ds zs : List ℕ) (k : ℕ) → k ≤ 3 → zs ≡ zeros k → 
 unfolding laid_out
 laid_near ds zs k near is = rw (le-ltb 3 k near) (λ i. codes "0." ++ (is i ++ ds))
 
--- ---- what is cut
+-- ---- what is limited
 
-cut_of : (p : Parts) (front left up down : ℕ) → IsFront (digits_of p) front left (ltb 0 left) → 0 < left → up ≡ left + tens_up p → down ≡ tens_down p
-    → IsCutTo front up down (nearest binary64 false p)
-cut_of p front left up down is more above below =
+limited_of : (p : Parts) (leading remaining up down : ℕ) → IsFront (digits_of p) leading remaining (ltb 0 remaining) → 0 < remaining → up ≡ remaining + tens_up p → down ≡ tens_down p
+    → IsLimitedTo leading up down (nearest binary64 false p)
+limited_of p leading remaining up down is more above below =
     let tens = 10 ^ tens_up p in
-    let next = rw (lt-ltb 0 left more) at is.to in
-    let power : (w : ℕ) → w * 10 ^ up ≡ w * 10 ^ left * tens = λ w. ap (λ k. w * 10 ^ k) above ∙ ap (λ x. w * x) (pow-add 10 left (tens_up p)) ∙ sym (mul_assoc w (10 ^ left) tens) in
+    let next = rw (lt-ltb 0 remaining more) at is.to in
+    let power : (w : ℕ) → w * 10 ^ up ≡ w * 10 ^ remaining * tens = λ w. ap (λ k. w * 10 ^ k) above ∙ ap (λ x. w * x) (pow-add 10 remaining (tens_up p)) ∙ sym (mul_assoc w (10 ^ remaining) tens) in
     record {
       number = digits_of p * tens;
-      from = subst (λ (x : ℕ). x ≤ digits_of p * tens) (sym (power front)) (mul-le-mul_right tens is.from);
-      to = subst (λ (x : ℕ). digits_of p * tens ≤ x) (sym (power (front + 1))) (mul-le-mul_right tens next);
+      from = subst (λ (x : ℕ). x ≤ digits_of p * tens) (sym (power leading)) (mul-le-mul_right tens is.from);
+      to = subst (λ (x : ℕ). digits_of p * tens ≤ x) (sym (power (leading + 1))) (mul-le-mul_right tens next);
       nearest = ap (λ k. round binary64 false (digits_of p * tens) (10 ^ k)) below;
     }
 
--- p has the digits w and f and the exponent x; front and power are read from them
-module _ (p : Parts) (w f x : List ℕ) (zeros front power : ℕ) (w_is : w ≡ p.whole) (f_is : f ≡ p.fraction) (x_is : x ≡ p.exponent) (wd : AllDigits 10 w) (fd : AllDigits 10 f) (xd : AllDigits 10 x) (many : AreTooMany (p.whole ++ p.fraction) zeros) (few : length p.whole + length p.fraction + length p.exponent ≤ 25) (front_is : front ≡ digits_value 10 (take 17 (drop zeros (w ++ f)))) (power_is : power ≡ digits_value 10 (take (length x) (drop 0 (x ++ [])))) where
+-- p has the digits w and f and the exponent x; leading and power are read from them
+module _ (p : Parts) (w f x : List ℕ) (zeros leading power : ℕ) (w_is : w ≡ p.whole) (f_is : f ≡ p.fraction) (x_is : x ≡ p.exponent) (wd : AllDigits 10 w) (fd : AllDigits 10 f) (xd : AllDigits 10 x) (many : AreTooMany (p.whole ++ p.fraction) zeros) (few : length p.whole + length p.fraction + length p.exponent ≤ 25) (leading_is : leading ≡ digits_value 10 (take 17 (drop zeros (w ++ f)))) (power_is : power ≡ digits_value 10 (take (length x) (drop 0 (x ++ [])))) where
   abbrev ds : List ℕ
   ds = p.whole ++ p.fraction
 
-  abbrev left : ℕ
-  left = length w + length f - zeros - 17
+  abbrev remaining : ℕ
+  remaining = length w + length f - zeros - 17
 
   same : w ++ f ≡ ds
   same = (λ i. w_is i ++ f_is i)
@@ -149,18 +151,18 @@ module _ (p : Parts) (w f x : List ℕ) (zeros front power : ℕ) (w_is : w ≡ 
   long : length ds ≡ length w + length f
   long = omega (arith, length-append p.whole p.fraction, ap (λ t. length t) w_is, ap (λ t. length t) f_is)
 
-  read : front ≡ digits_value 10 (take 17 (drop zeros ds))
-  read = front_is ∙ ap (λ t. digits_value 10 (take 17 (drop zeros t))) same
+  read : leading ≡ digits_value 10 (take 17 (drop zeros ds))
+  read = leading_is ∙ ap (λ t. digits_value 10 (take 17 (drop zeros t))) same
 
-  bounds : (10 ^ 16 ≤ front) × (front < 10 ^ 17)
+  bounds : (10 ^ 16 ≤ leading) × (leading < 10 ^ 17)
   bounds =
       let within : zeros + 17 ≤ length ds = omega (arith, many.long) in (
         subst (λ (n : ℕ). 10 ^ 16 ≤ n) (sym read) (front_large ds zeros 17 (omega arith) within many.first),
         subst (λ (n : ℕ). n < 10 ^ 17) (sym read) (value_below ds zeros 17 all),
       )
 
-  is_front : IsFront (digits_of p) front left (ltb 0 left)
-  is_front = front_bounds ds zeros 17 left front all (omega (arith, long, many.long)) (subst (λ (n : ℕ). digits_value 10 (take n ds) ≡ 0) (sym (sub-zero zeros)) many.zeros_are) read
+  is_leading : IsFront (digits_of p) leading remaining (ltb 0 remaining)
+  is_leading = leading_bounds ds zeros 17 remaining leading all (omega (arith, long, many.long)) (subst (λ (n : ℕ). digits_value 10 (take n ds) ≡ 0) (sym (sub-zero zeros)) many.zeros_are) read
 
   worth : power ≡ digits_value 10 x
   worth = power_is ∙ (λ i. digits_value 10 (take (length x) (append-nil x i))) ∙ ap (digits_value 10) (take_all (length x) x (omega arith))
@@ -170,34 +172,34 @@ module _ (p : Parts) (w f x : List ℕ) (zeros front power : ℕ) (w_is : w ≡ 
       let most : 10 ^ length x ≤ 10 ^ 7 = pow-le-pow_right (lit< tt) {j = 7} (omega (arith, few, many.long, length-append p.whole p.fraction, ap (λ t. length t) x_is)) in
       omega (arith, worth, digits_value-lt 10 x xd)
 
-  lengths : (0 < left) × (left < 100) × (length f < 100) × (length f ≡ length p.fraction)
+  lengths : (0 < remaining) × (remaining < 100) × (length f < 100) × (length f ≡ length p.fraction)
   lengths =
       let at : length f ≡ length p.fraction = ap (λ t. length t) f_is in
       (omega (arith, long, many.long), omega (arith, long, few, length-append p.whole p.fraction), omega (arith, few), at)
 
-  pub sums_fit : (length f + power < 2 ^ 64) × (left + power < 2 ^ 64)
+  pub sums_fit : (length f + power < 2 ^ 64) × (remaining + power < 2 ^ 64)
   sums_fit = (omega (arith, lengths, small_power), omega (arith, lengths, small_power))
 
-  pub cut_down : p.exponent_negative ≡ true → IsCut p front left (length f + power)
-  cut_down sign =
+  pub limited_down : p.exponent_negative ≡ true → IsLimited p leading remaining (length f + power)
+  limited_down sign =
       let up : tens_up p ≡ 0 = ap (λ b. cond b 0 (digits_value 10 p.exponent)) sign in
       let down : tens_down p ≡ length p.fraction + digits_value 10 p.exponent = ap (λ b. length p.fraction + cond b (digits_value 10 p.exponent) 0) sign in
       let exponent : power ≡ digits_value 10 p.exponent = worth ∙ ap (digits_value 10) x_is in
       record {
         digits = bounds;
         powers = (omega (arith, lengths), omega (arith, lengths, small_power));
-        cut = cut_of p front left left (length f + power) is_front lengths.0 (omega arith) (omega (arith, lengths.3));
+        limited = limited_of p leading remaining remaining (length f + power) is_leading lengths.0 (omega arith) (omega (arith, lengths.3));
       }
 
-  pub cut_up : p.exponent_negative ≡ false → IsCut p front (left + power) (length f)
-  cut_up sign =
+  pub limited_up : p.exponent_negative ≡ false → IsLimited p leading (remaining + power) (length f)
+  limited_up sign =
       let up : tens_up p ≡ digits_value 10 p.exponent = ap (λ b. cond b 0 (digits_value 10 p.exponent)) sign in
       let down : tens_down p ≡ length p.fraction = ap (λ b. length p.fraction + cond b (digits_value 10 p.exponent) 0) sign ∙ omega arith in
       let exponent : power ≡ digits_value 10 p.exponent = worth ∙ ap (digits_value 10) x_is in
       record {
         digits = bounds;
         powers = (omega (arith, lengths, small_power), omega (arith, lengths));
-        cut = cut_of p front left (left + power) (length f) is_front lengths.0 (omega arith) (omega (arith, lengths.3));
+        limited = limited_of p leading remaining (remaining + power) (length f) is_leading lengths.0 (omega arith) (omega (arith, lengths.3));
       }
 
 both_signs : (a c b d : ℕ) → round binary64 false a c ≡ round binary64 false b d → (s : Bool) → round binary64 s a c ≡ round binary64 s b d

@@ -1,11 +1,11 @@
-//! A double for which `ryu` gives more than 17 digits; none is known. They are cut, or the last one is raised.
+//! A double for which `ryu` gives more than 17 digits; none is known. They are limited to 17, or the last of these is raised.
 
 ghost use Rattle.std.specs.Prelude.{◌≡◌, ◌<◌, ◌≤◌, ◌≢◌, ◌+◌, ◌*◌, ◌^◌, ◌%◌, ◌++◌, pos, negsuc, false, length, take, drop, IfSome, IfNone};
 ghost use Rattle.std.specs.Str.Parse.{AllDigits, digits_value};
 ghost use Rattle.std.specs.Float.{binary64};
 ghost use Rattle.std.specs.Float.Ieee.{round};
 ghost use Rattle.bd_wide_text.specs.Double.{laid_out};
-ghost use Rattle.bd_wide_text.specs.inside.Cut.{AreTooMany, IsCut, IsCutTo, IsLaidOutAs};
+ghost use Rattle.bd_wide_text.specs.inside.Limited.{AreTooMany, IsLimited, IsLimitedTo, IsLaidOutAs};
 ghost use Rattle.bd_wide_text.specs.inside.LaidOutAnew.{IsLaidOutAnew};
 ghost use Rattle.bd_wide_text.specs.Layout.{Adds, zeros as zeros_of};
 
@@ -19,7 +19,7 @@ use itoa::Buffer;
 #[inline(always)]
 pub(crate) fn too_many(whole: &[u8], fraction: &[u8]) -> Option<usize>
     requires { AllDigits 10 whole.now × AllDigits 10 fraction.now }
-    ensures few { IfNone result (digits_value 10 (whole.now ++ fraction.now) < 10 ^ 17) }
+    ensures none { IfNone result (digits_value 10 (whole.now ++ fraction.now) < 10 ^ 17) }
     ensures many { IfSome result (λ zeros. AreTooMany (whole.now ++ fraction.now) zeros) }
 {
     let count = whole.len() + fraction.len();
@@ -34,30 +34,30 @@ pub(crate) fn too_many(whole: &[u8], fraction: &[u8]) -> Option<usize>
 }
 
 /// The number that `count` digits of two runs are, from `from` on.
-fn number(front: &[u8], back: &[u8], from: usize, count: usize) -> u64
-    requires digits { AllDigits 10 (front.now ++ back.now) }
-    requires within { (count ≤ 19) × (from + count ≤ length front.now + length back.now) }
-    ensures { result ≡ digits_value 10 (take count (drop from (front.now ++ back.now))) }
+fn number(leading: &[u8], back: &[u8], from: usize, count: usize) -> u64
+    requires digits { AllDigits 10 (leading.now ++ back.now) }
+    requires within { (count ≤ 19) × (from + count ≤ length leading.now + length back.now) }
+    ensures { result ≡ digits_value 10 (take count (drop from (leading.now ++ back.now))) }
 {
     let mut value = 0;
     for i in 0..count {
-        value = value * 10 + digit_at(front, back, from + i);
+        value = value * 10 + digit_at(leading, back, from + i);
     }
     value
 }
 
 /// The digits, or one more at the last place: those that are read as the double.
-fn one_of_two(front: u64, up: u64, down: u64, x: f64) -> u64
-    requires digits { (10 ^ 16 ≤ front) × (front < 10 ^ 17) }
-    requires cut { IsCutTo front up down x }
+fn one_of_two(leading: u64, up: u64, down: u64, x: f64) -> u64
+    requires digits { (10 ^ 16 ≤ leading) × (leading < 10 ^ 17) }
+    requires limited { IsLimitedTo leading up down x }
     ensures nearest { round binary64 false (result * 10 ^ up) (10 ^ down) ≡ x }
-    ensures digits { (front ≤ result) × (result ≤ front + 1) }
+    ensures digits { (leading ≤ result) × (result ≤ leading + 1) }
 {
-    let low: f64 = from_decimal(front, up, down);
+    let low: f64 = from_decimal(leading, up, down);
     if low.to_bits() == x.to_bits() {
-        return front;
+        return leading;
     }
-    front + 1
+    leading + 1
 }
 
 /// A number without the zeros at its end, and how many they are.
@@ -65,7 +65,7 @@ fn without_last_zeros(number: u64) -> (u64, u64)
     requires { (0 < number) × (number ≤ 10 ^ 17) }
     ensures same { result.0 * 10 ^ result.1 ≡ number }
     ensures last { result.0 % 10 ≢ 0 }
-    ensures few { result.1 ≤ 17 }
+    ensures zeros { result.1 ≤ 17 }
 {
     let (mut rest, mut zeros) = (number, 0);
     while rest % 10 == 0 {
@@ -78,7 +78,7 @@ fn without_last_zeros(number: u64) -> (u64, u64)
 /// Writes 17 of the digits of a number, of which there are more after these zeros.
 #[cold]
 #[inline(never)]
-pub(crate) fn put_cut(numeral: &Numeral, zeros: usize, buffer: &mut [u8], end: usize) -> usize
+pub(crate) fn put_limited(numeral: &Numeral, zeros: usize, buffer: &mut [u8], end: usize) -> usize
     requires digits { AreTooMany (numeral.now.whole ++ numeral.now.fraction) zeros }
     requires short { length numeral.now.whole + length numeral.now.fraction
         + length numeral.now.exponent ≤ 25 }
@@ -87,32 +87,32 @@ pub(crate) fn put_cut(numeral: &Numeral, zeros: usize, buffer: &mut [u8], end: u
         (take result buffer.new) }
     ensures end { result ≤ end + 32 }
 {
-    let (front, up, down) = cut(numeral, zeros);
-    let kept = one_of_two(front, up, down, numeral.to_float(false));
+    let (leading, up, down) = limited(numeral, zeros);
+    let kept = one_of_two(leading, up, down, numeral.to_float(false));
     put_kept(kept, up, down, buffer, end)
 }
 
 /// The first 17 digits after the zeros, and what they count: 10 ^ up / 10 ^ down.
-fn cut(numeral: &Numeral, zeros: usize) -> (u64, u64, u64)
+fn limited(numeral: &Numeral, zeros: usize) -> (u64, u64, u64)
     requires digits { AreTooMany (numeral.now.whole ++ numeral.now.fraction) zeros }
     requires short { length numeral.now.whole + length numeral.now.fraction
         + length numeral.now.exponent ≤ 25 }
-    ensures { IsCut numeral.now result.0 result.1 result.2 }
+    ensures { IsLimited numeral.now result.0 result.1 result.2 }
 {
     let (whole, fraction, exponent) = (numeral.whole(), numeral.fraction(), numeral.exponent());
-    let front = number(whole, fraction, zeros, 17);
+    let leading = number(whole, fraction, zeros, 17);
     let power = number(exponent, b"", 0, exponent.len());
-    let left = (whole.len() + fraction.len() - zeros - 17) as u64;
+    let remaining = (whole.len() + fraction.len() - zeros - 17) as u64;
     let places = fraction.len() as u64;
     if numeral.is_exponent_negative() {
-        return (front, left, places + power);
+        return (leading, remaining, places + power);
     }
-    (front, left + power, places)
+    (leading, remaining + power, places)
 }
 
 /// Writes the number `kept` times 10 ^ up / 10 ^ down.
 fn put_kept(kept: u64, up: u64, down: u64, buffer: &mut [u8], end: usize) -> usize
-    requires kept { (0 < kept) × (kept ≤ 10 ^ 17) }
+    requires bounds { (0 < kept) × (kept ≤ 10 ^ 17) }
     requires powers { (up < 10 ^ 8) × (down < 10 ^ 8) }
     requires space { end + 32 ≤ length buffer.old }
     ensures appended { Adds (IsLaidOutAs kept up down) (take end buffer.old)
@@ -130,7 +130,7 @@ fn put_kept(kept: u64, up: u64, down: u64, buffer: &mut [u8], end: usize) -> usi
 }
 
 /// Up to six zeros.
-#[tactic(auto, using(crate::proofs::CutTextLemmas::six_zeros))]
+#[tactic(auto, using(crate::proofs::LimitedTextLemmas::six_zeros))]
 fn zeros(count: usize) -> &'static [u8]
     requires { count ≤ 6 }
     ensures { result.now ≡ zeros_of count }

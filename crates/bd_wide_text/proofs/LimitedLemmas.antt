@@ -13,7 +13,7 @@ use lib.Ieee.Exact.{HasValue, odd_sign}
 use lib.Ieee.Fits.{round-fits, round_is}
 use lib.Ieee.Digits.{size-lt, size_reaches}
 use lib.Pow.{pow-add, pow_pos, pow_mono}
-use Rattle.bd_wide_text.specs.inside.Cut.{IsCutTo}
+use Rattle.bd_wide_text.specs.inside.Limited.{IsLimitedTo}
 use Rattle.fast_float.specs.Rounding.{scaled_bits, IsNearestBits}
 use Rattle.core.specs.Dec2flt.Rounding.{IsJustAbove}
 use Rattle.fast_float.proofs.ExactLemmas.{ten_to_pos}
@@ -199,12 +199,12 @@ few_after ds zeros all none within few =
     omega (arith, whole, value_below ds zeros n all, ap (λ x. x * 10 ^ n) none)
 
 -- the digits, or one more at the last place
-pub raised : (front up down : ℕ) (x : Float) → 10 ^ 16 ≤ front → IsCutTo front up down x → (round binary64 false (front * 10 ^ up) (10 ^ down) ≡ x → ⊥)
-    → round binary64 false ((front + 1) * 10 ^ up) (10 ^ down) ≡ x
-raised front up down x large cut other =
+pub raised : (leading up down : ℕ) (x : Float) → 10 ^ 16 ≤ leading → IsLimitedTo leading up down x → (round binary64 false (leading * 10 ^ up) (10 ^ down) ≡ x → ⊥)
+    → round binary64 false ((leading + 1) * 10 ^ up) (10 ^ down) ≡ x
+raised leading up down x large limited other =
     let tens = 10 ^ up in
-    let close : (front + 1) * tens * 10 ^ 16 ≤ front * tens * (10 ^ 16 + 1) = omega (arith, mul-le-mul_right tens large) in
-    elim (one_of_two (front * tens) cut.number ((front + 1) * tens) (10 ^ down) (ten_to_pos down) cut.from cut.to close) [
-      | inl low ↦ absurd (other (low ∙ cut.nearest))
-      | inr high ↦ high ∙ cut.nearest
+    let close : (leading + 1) * tens * 10 ^ 16 ≤ leading * tens * (10 ^ 16 + 1) = omega (arith, mul-le-mul_right tens large) in
+    elim (one_of_two (leading * tens) limited.number ((leading + 1) * tens) (10 ^ down) (ten_to_pos down) limited.from limited.to close) [
+      | inl low ↦ absurd (other (low ∙ limited.nearest))
+      | inr high ↦ high ∙ limited.nearest
     ]

@@ -1,5 +1,5 @@
 use Rattle.std.proofs.Common.{◌≡◌, ◌<◌, ◌≤◌, ◌+◌, ◌*◌, ◌^◌}
-use Rattle.bd_wide_text.proofs.cut.without_last_zeros.Given as goal
+use Rattle.bd_wide_text.proofs.limited.without_last_zeros.Given as goal
 
 abbrev pub invariant-loop-rest : goal.invariant-loop-rest
 invariant-loop-rest l = record {
