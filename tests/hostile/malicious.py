@@ -155,7 +155,7 @@ LINES_OF_NUMBERS: dict[str, tuple[Callable[[int], bytes], str | None]] = {
     "digits of an exponent": (lambda size: b'{"a":1e' + b"9" * size + b"}", "line 1, byte 5: number out of range"),
     "a wrapper without an end": (lambda size: b'{"a":{"$numberDouble":"' + b"1" * size, "line 1, byte"),
     # A number in a wrapper has no escapes.
-    "wrappers with escapes": (lambda size: b'{"a":[' + b",".join([b'{"$numberDouble":"\\u0031"}'] * (size // 28)) + b"]}", "line 1, byte 6: bad wrapper"),
+    "wrappers with escapes": (lambda size: b'{"a":[' + b",".join([b'{"$numberDouble":"\\u0031"}'] * (size // 28)) + b"]}", 'line 1, byte 6: bad wrapper; write {"$numberDouble":".."}'),
     "wrappers that are begun": (lambda size: b'{"a":' + b'{"$numberDouble":' * (size // 17), "line 1, byte"),
 }
 # Those that are no line of one command.
