@@ -27,6 +27,7 @@ use crate::relaxed::append_kind;
 use bd_bson_view::{ElementType, RawValue};
 use bd_extjson_text::{End, VALUE, append_few, append_name, append_node, append_separator};
 use bd_value::Kind;
+use bd_wide_text::put as put_slice;
 
 /// More space than a brace and the line end after it take.
 const OPENING: usize = 2 * BLOCK + 1;
@@ -325,9 +326,7 @@ fn put(bytes: &[u8], out: &mut Vec<u8>, end: usize) -> usize
     ensures end { result ≡ end + length bytes.now }
     ensures size { length out.new.items ≡ length out.old.items }
 {
-    let after = end + bytes.len();
-    out.as_mut_slice()[end..after].copy_from_slice(bytes);
-    after
+    put_slice(bytes, out.as_mut_slice(), end)
 }
 
 /// Writes bytes over others.
