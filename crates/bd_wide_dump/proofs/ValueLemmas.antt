@@ -217,6 +217,7 @@ module _ (kind : Kind) (bytes : List ℕ) (d : kind ≡ kinds.Doc → ⊥) (a : 
   pub plain_viewed : (viewed : Tree) → ((s : Sound kind bytes) → viewed ≡ meaning s) → (tree : Tree) (v : HasValue (Kept kind) bytes tree) → viewed ≡ leaf (plain_of tree v).scalar
   plain_viewed viewed is tree v = is (sound_here tree v) ∙ meaning_is (sound_here tree v) (sound_here tree v)
 
+  -- what is appended for a scalar, by the view of its bytes, is the text of the value that they are
   pub plain_appended : {E : Type 0} (format : JsonFormat) (viewed : Tree) (old : List ℕ) (end : ℕ) (new : List ℕ) (r : Result ℕ E) → ((s : Sound kind bytes) → viewed ≡ meaning s)
       → ((s : Scalar) → viewed ≡ leaf s → IfOk r (λ e. AppendsBy (λ text. IsKindText format s text) old end e new))
       → (tree : Tree) → HasValue (Kept kind) bytes tree → IfOk r (λ e. AppendsText format tree old end e new)

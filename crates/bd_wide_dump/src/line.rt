@@ -1,6 +1,6 @@
 //! The text of a document, and its line: the text and a newline.
 
-ghost use Rattle.std.specs.Prelude.{◌≡◌, ◌≤◌, ◌+◌, ◌++◌, ℕ, List, None, length, take, drop, IfOk, OnErr};
+ghost use Rattle.std.specs.Prelude.{◌≡◌, ◌≢◌, ◌≤◌, ◌+◌, ◌++◌, ℕ, List, None, length, take, drop, IfOk, OnErr};
 ghost use Rattle.bd_value.specs.Limits.{longest_document};
 ghost use Rattle.bd_value.specs.Tree.{Tree, array, doc};
 ghost use Rattle.bd_value.specs.declared.node.Kind.TheVariants as kinds;
@@ -8,13 +8,14 @@ ghost use Rattle.bd_bson_view.specs.declared.raw_parts.ElementType.TheVariants.{
 ghost use Rattle.bd_bson_check.specs.FirstFault.{fault_under};
 ghost use Rattle.bd_bson_check.specs.declared.profile.Profile.TheVariants.{All};
 ghost use Rattle.bd_wide_dump.specs.WideText.{IsLineOf, IsTextOfBytes};
+ghost use Rattle.bd_wide_dump.specs.declared.format.JsonFormat.TheVariants.{Relaxed};
 ghost use Rattle.bd_wide_dump.specs.Values.{values_in};
 ghost use Rattle.bd_wide_dump.specs.inside.Begins.{AppendsText, HasElements, HasValue};
 
 use crate::element::element_at;
 use crate::format::JsonFormat;
 use crate::number::{append_decimal128, put_double_there};
-use crate::relaxed::append_kind;
+use crate::relaxed::{append_kind, append_relaxed};
 use bd_bson_view::{ElementType, RawValue, raw_parts as parts};
 use bd_extjson_text::{End, VALUE, append_few, append_led, append_name, append_separator};
 use bd_value::{Kind, NoMemory};
@@ -172,8 +173,37 @@ fn append_kept(
         Kind::Doc => append_fields(format, bytes, start + 4, out, end),
         Kind::Array => append_items(format, bytes, start + 4, out, end),
         Kind::CodeScope => append_scope(format, bytes, start, out, end),
-        _ => append_kind(format, RawValue::there(kind, bytes, start), out, end),
+        _ => match format {
+            JsonFormat::Canonical => append_kind(
+                format,
+                RawValue::there(kind, bytes, start),
+                out,
+                end,
+            ),
+            JsonFormat::Relaxed => append_relaxed_scalar(kind, bytes, start, out, end),
+        },
     }
+}
+
+/// The same for a scalar in relaxed form.
+#[inline(never)]
+fn append_relaxed_scalar(
+    kind: Kind,
+    bytes: &[u8],
+    start: usize,
+    out: &mut Vec<u8>,
+    end: usize,
+) -> End
+    requires short { length bytes.now ≤ longest_document }
+    requires inside { start ≤ length bytes.now }
+    requires scalar { (kind ≢ kinds.Doc) × ((kind ≢ kinds.Array) × (kind ≢ kinds.CodeScope)) }
+    requires value { (tree : Tree) × HasValue (Kept kind) (drop start bytes.now) tree }
+    requires buffer { end + VALUE ≤ length out.old.items }
+    ensures text { (tree : Tree) → HasValue (Kept kind) (drop start bytes.now) tree →
+        IfOk result (λ to. AppendsText Relaxed tree out.old.items end to out.new.items) }
+    ensures err { OnErr result (take end out.new.items ≡ take end out.old.items) }
+{
+    append_relaxed(RawValue::there(kind, bytes, start), out, end)
 }
 
 /// Appends the text of the code with scope at an offset.

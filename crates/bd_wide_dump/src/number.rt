@@ -24,6 +24,7 @@ pub(crate) fn long(bytes: &[u8]) -> u64
 }
 
 /// Whether a double is written without a wrapper.
+#[inline(always)]
 pub(crate) fn is_bare(format: JsonFormat, bits: u64) -> bool
     ensures { result ≡ is_bare format (of_bits binary64 bits) }
 {
@@ -34,6 +35,7 @@ pub(crate) fn is_bare(format: JsonFormat, bits: u64) -> bool
 }
 
 /// Whether the double with these bits is neither infinite nor NaN: the eleven bits of its exponent are not all set.
+#[inline(always)]
 fn is_finite(bits: u64) -> bool
     ensures { result ≡ float_is_finite (of_bits binary64 bits) }
 {
@@ -69,7 +71,8 @@ fn put_double_in(bare: bool, bits: u64, buffer: &mut [u8], end: usize) -> usize
     if bare {
         return put_double(bits, buffer, end);
     }
-    let at = put(b"{\"$numberDouble\":\"", buffer, end);
+    let lead = *b"{\"$numberDouble\":\"";
+    let at = put(&lead, buffer, end);
     let at = put_double(bits, buffer, at);
     put(b"\"}", buffer, at)
 }

@@ -41,7 +41,7 @@ pub(crate) fn append_kind(
 
 /// The same in relaxed form.
 #[inline(never)]
-fn append_relaxed(node: RawValue<'_>, out: &mut Vec<u8>, end: usize) -> End
+pub(crate) fn append_relaxed(node: RawValue<'_>, out: &mut Vec<u8>, end: usize) -> End
     requires scalar { (s : trees.Scalar) × (value_tree node ≡ leaf s) }
     requires buffer { end + VALUE ≤ length out.old.items }
     ensures text { (s : trees.Scalar) → value_tree node.entry ≡ leaf s → IfOk result (λ e.

@@ -210,8 +210,8 @@ append_kept-append_kind-requires t c =
       buffer = c.requires.buffer;
     }
 
-pub append_kept-returns-in_default-clause-text : goal.append_kept-returns-in_default-clause-text
-append_kept-returns-in_default-clause-text t c = λ tree h.
+pub append_kept-returns-in-Canonical-clause-text : goal.append_kept-returns-in-Canonical-clause-text
+append_kept-returns-in-Canonical-clause-text t c = λ tree h.
     v.plain_appended c.args.kind (drop c.args.start c.args.bytes.now) c.in_default.not-Doc c.in_default.not-Array c.in_default.not-CodeScope
     (IsBytes-drop c.args.start c.args.bytes.now (λ i. (c.type_inv.bytes i).fits)) c.args.format (value_tree c.there.result) c.args.out.now.items c.args.end c.append_kind.new.out.items c.append_kind.result
     c.there.ensures.meaning c.append_kind.ensures.text tree h
