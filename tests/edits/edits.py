@@ -12,9 +12,9 @@ usage: tests/edits.sh [CRATE..] [--jobs N]   tries all edits, or those of the na
 In tests/edits/CRATE.edits an edit is a line '# NAME' and the lines of a file of must-fail; a blank line ends it. A line
 'open: GOAL..' names the goals that its body makes false, which someone has read.
 
-A round is a copy of a crate with one edit a function, and one check of it. An edit counts as refused where the line of
-its own function says that its proof fails for a reason of its own. Where it says that a callee is not proved, the edit
-is tried in a later round without that callee's; and each edit that no round refused is tried alone.
+A round is a copy of a crate with one edit a function, and one check of these functions and what they call. An edit counts
+as refused where the line of its own function says that its proof fails for a reason of its own. Where it says that a callee
+is not proved, the edit is tried in a later round without that callee's; and each edit that no round refused is tried alone.
 
 An edit is not judged where all that failed is a proof that lacks a name or a case, with the goals beside it for which no
 proof is written, or a `search` that gave up at a limit: a proof may be there that nobody wrote. Such an edit counts neither
@@ -83,8 +83,6 @@ linked = getattr(rt, "linked", shutil.copytree)
 BUILDING = threading.Lock()
 # What a check takes at most, in bytes.
 MEMORY = 4_000_000_000
-# In a round of so many edits at most their functions alone are proved, with what these call: a larger one takes longer so.
-FEW = 2
 
 
 class Function(NamedTuple):
@@ -253,11 +251,12 @@ def texts_of(edits: list[Edit]) -> dict[str, str]:
 
 
 def kept_work(crate: Crate, room: str) -> str | None:
-    """Return a copy of what the crate's checks keep, or None where a library below it is not proved."""
+    """Return a copy of what the crate's checks keep, or None where it or a library below it is not proved without an edit."""
     with BUILDING:
-        held = rtlib.lock([*crate.below(), crate])
+        crates = [*crate.below(), crate]
+        held = rtlib.lock(crates)
         try:
-            built = is_left_by_gate(crate) or not any(it.build_rlib(["--jobs", "1"], anew=False) for it in crate.below())
+            built = is_left_by_gate(crates) or not any(it.build_rlib(["--jobs", "1"], anew=False) for it in crates)
             kept = f"{room}/{crate.name}"
             if os.path.isdir(f"{crate.folder}/out/incremental"):
                 linked(f"{crate.folder}/out/incremental", kept)
@@ -267,14 +266,14 @@ def kept_work(crate: Crate, room: str) -> str | None:
     return kept if built else None
 
 
-def is_left_by_gate(crate: Crate) -> bool:
-    """Whether the libraries below are those of rt ci, which leaves them with no stamp and with all made in one run."""
+def is_left_by_gate(crates: list[Crate]) -> bool:
+    """Whether the libraries are those of rt ci, which leaves them with no stamp and with all made in one run."""
     newest = 0
-    for it in crate.below():
+    for it in crates:
         newest = max([newest, *map(os.path.getmtime, rtlib.files_of(it.folder))])
         if os.path.exists(f"{it.folder}/out/rlib/stamp") or not os.path.isfile(f"{it.rlib}/format"):
             return False
-    return all(os.path.getmtime(f"{it.rlib}/format") > newest for it in crate.below())
+    return all(os.path.getmtime(f"{it.rlib}/format") > newest for it in crates)
 
 
 class Check(NamedTuple):
@@ -292,33 +291,40 @@ class Check(NamedTuple):
 class Trial:
     """Tries edits of one crate and prints what came of each."""
 
-    def __init__(self, crate: Crate, flags: list[str], few: int = FEW) -> None:
-        self.crate, self.flags, self.few, self.kept = crate, flags, few, ""
+    def __init__(self, crate: Crate, flags: list[str], jobs: int = 1) -> None:
+        self.crate, self.flags, self.jobs, self.kept = crate, flags, jobs, ""
         self.outcomes: dict[str, str] = {}
 
-    def run(self, edits: list[Edit], jobs: int, is_proved: bool = False) -> None:
+    def run(self, edits: list[Edit]) -> None:
         """Try all edits, where the crate is proved without them."""
         with tempfile.TemporaryDirectory(prefix="edits-") as room:
             self.kept = kept_work(self.crate, room)
-            if self.kept is None or not is_proved and rt.checked(self.crate, {}, self.flags, self.kept).returncode:
+            if self.kept is None:
                 print(f"{self.crate.name}: it or a library below it is not proved without an edit, so none was tried")
                 self.outcomes = {it.label: NOT_TRIED for it in edits}
                 return
             pending, alone = [it for it in edits if it.functions], [it for it in edits if not it.functions]
             while pending:
-                tried = side_by_side(self.try_round, rounds_of(pending), jobs)
+                tried = self.each(self.try_round, rounds_of(pending))
                 pending = [it for blocked, _ in tried for it in blocked]
                 alone += [it for _, others in tried for it in others]
-            side_by_side(self.try_alone, alone, jobs)
+            self.each(self.try_alone, alone)
+
+    def each(self, call: Callable, given: list) -> list:
+        """Call once for each that is given. Where nothing is kept yet, the first call keeps what the others begin with."""
+        first = [] if os.path.isdir(self.kept) else given[:1]
+        return [*map(call, first), *side_by_side(call, given[len(first) :], self.jobs)]
 
     def check(self, edits: list[Edit]) -> Check:
-        """Check the crate once, over a copy of the kept work, so that no check rests on another."""
+        """Check the functions of edits once, over what the checks before kept, or over a copy of it where others run beside."""
         since, texts = time.monotonic(), texts_of(edits)
-        for only in (only_flags(edits) if len(edits) <= self.few else [], []):
+        for only in (only_flags(edits), []):
             with tempfile.TemporaryDirectory(prefix="edits-kept-") as room:
-                if os.path.isdir(self.kept):
-                    linked(self.kept, f"{room}/kept")
-                ran = rt.checked(self.crate, texts, [*self.flags, *only], f"{room}/kept")
+                kept = self.kept
+                if self.jobs > 1 and os.path.isdir(kept):
+                    kept = f"{room}/kept"
+                    linked(self.kept, kept)
+                ran = rt.checked(self.crate, texts, [*self.flags, *only], kept)
             # Of an impl of a trait of another crate the name may be another.
             if not only or "has no function" not in ran.stdout:
                 break
@@ -373,9 +379,11 @@ class Trial:
 
 
 def try_all(crates: list[Crate], jobs: int) -> dict[str, str]:
-    """Try all edits: those of one crate in batches side by side, those of several crates crate by crate, several at a time."""
-    trials = [(Trial(it, ["--jobs", "1"]), edits) for it in crates if (edits := edits_of(it))]
-    side_by_side(lambda it: it[0].run(it[1], jobs if len(trials) == 1 else 1), trials, jobs)
+    """Try all edits: those of one crate in batches side by side, those of several crates crate by crate, several at a time, the largest
+    crates first."""
+    crates = sorted(crates, key=lambda it: -it.count(rb"\n"))
+    trials = [(Trial(it, ["--jobs", "1"], jobs if len(crates) == 1 else 1), edits) for it in crates if (edits := edits_of(it))]
+    side_by_side(lambda it: it[0].run(it[1]), trials, jobs)
     return {label: outcome for trial, _ in trials for label, outcome in trial.outcomes.items()}
 
 
@@ -456,11 +464,11 @@ def try_one_round(crates: list[Crate], number: int) -> dict[str, str]:
     at = number % len(rounds)
     edits, crate = rounds[at], rounds[at][0].crate
     print(f"round {at} of {len(rounds)}: {crate.name}, {len(edits)} edits", flush=True)
-    trial = Trial(crate, ["--jobs", str(rt.processors())], AT_MOST)
+    trial = Trial(crate, ["--jobs", str(rt.processors())])
     signal.signal(signal.SIGALRM, stop_in_time)
     signal.alarm(SECONDS)
     try:
-        trial.run(edits, 1, is_proved=True)
+        trial.run(edits)
     except TimeoutError:
         left = [it.label for it in edits if it.label not in trial.outcomes]
         print(f"passed over, since they take more than {SECONDS} seconds here: {' '.join(left)}")
@@ -558,7 +566,7 @@ def self_test(crates: list[Crate]) -> int:
     edits = [Edit(crate, name, f"file: {path}\nold: {old}\nnew: {new}\n") for name, (path, old, new, _) in SELF_TEST.items()]
     is_one_round = len(rounds_of(edits)) == 1
     trial = Trial(crate, ["--jobs", "1"])
-    trial.run(edits, 1)
+    trial.run(edits)
     wrong = [it for it, wanted in SELF_TEST.items() if trial.outcomes[f"{crate.name}/{it}"] != wanted[-1]]
     wrong += [" ".join(lines) for lines, wanted in MESSAGES if outcome_of(messages_of(lines)) != wanted]
     wrong += [str(it) for it, wanted in READ if (read_outcome(SEARCH_GAVE_UP, it, [LEFT_OPEN]) == REFUSED) != wanted]
