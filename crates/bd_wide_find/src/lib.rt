@@ -3,7 +3,7 @@
 //! What is searched is a copy of the dump, with a code in place of each number: an int32 or an int64, by the two classes of types that
 //! `$type` of the query separates. What is printed are the documents of the dump itself: document n of the copy is document n of the dump.
 //!
-//! An example, which `bd_wide_find_tests` proves and runs as `examples::find_by_value`:
+//! An example, which `bd_wide_tests` proves and runs as `examples::find_by_value`:
 //!
 //! ```
 //! // {"a":1.5}, {"a":2}

@@ -1,8 +1,8 @@
-//! The examples of use in the roots of `bd_wide_advice`, `bd_wide_number`, `bd_wide_text`, `bd_wide`, `bd_wide_dump`, `bd_wide_layout`
-//! and `bd_wide_cli`, and runs of `bd_wide_cli`.
+//! The examples of use in the roots of `bd_wide_advice`, `bd_wide_number`, `bd_wide_text`, `bd_wide`, `bd_wide_dump`, `bd_wide_layout`,
+//! `bd_wide_find`, `bd_wide_service` and `bd_wide_cli`, and runs of `bd_wide_cli`.
 use bd_bson_check::{Profile, check_bytes};
 use bd_bson_view::ElementType;
-use bd_cli_args::{LayoutOptions, WideOrder, WordsFault};
+use bd_cli_args::{FindOptions, Form, LayoutOptions, WideOrder, WordsFault};
 use bd_cli_scan::Status;
 use bd_extjson_fault::{JsonFault, JsonFaultKind};
 use bd_io_device::{MemoryInput, MemoryOutput};
@@ -10,8 +10,10 @@ use bd_wide::number_in;
 use bd_wide_advice::advice_at;
 use bd_wide_cli::{file_of, is_serve, parse, report, run, version};
 use bd_wide_dump::{JsonFormat, WideTextBuffer};
+use bd_wide_find::find::find;
 use bd_wide_layout::{JsonLayout, Layout, LayoutBuffer, go_together, read_layout};
 use bd_wide_number::{Number, code_of};
+use bd_wide_service::serve::serve;
 use bd_wide_text::write_double;
 use std::test::Fail;
 
@@ -206,4 +208,75 @@ fn as_csv(rt: HostRuntime) -> Result<(), Fail> {
     let piece = buffer.piece(alloc, &layout, 0, bytes)?;
     assert!(rt; piece == b"1.5,\n".as_slice());
     Ok(())
+}
+
+/// Numbers are found by value, whatever their types.
+#[test]
+fn find_by_value(rt: HostRuntime) -> Result<(), Fail> {
+    let alloc = rt.alloc();
+    // {"a":1.5}, {"a":2}
+    let bytes = b"\x10\0\0\0\x01a\0\0\0\0\0\0\0\xf8\x3f\0\x0c\0\0\0\x10a\0\x02\0\0\0\0";
+    let options = FindOptions {
+        query: None,
+        sort: None,
+        skip: 0,
+        limit: 0,
+        batch: None,
+        index: None,
+        after: None,
+    };
+    let layout = Layout::Json(JsonLayout {
+        format: JsonFormat::Canonical,
+        paths: None,
+        is_array: false,
+        is_pretty: false,
+    });
+    let mut file = MemoryInput::new(bytes, 28, None);
+    let mut buffer = [0; 100];
+    let mut out = MemoryOutput::new(&mut buffer, 100, None);
+    let mut reported = [0; 200];
+    let mut err = MemoryOutput::new(&mut reported, 200, None);
+    let status = find(
+        alloc,
+        "bsonwide",
+        &layout,
+        Form::Lines,
+        b"{\"a\":{\"$lt\":1.75}}",
+        &options,
+        &mut file,
+        &mut out,
+        &mut err,
+    );
+    assert!(rt; status == Status::Done);
+    assert!(rt; out.bytes() == b"{\"a\":{\"$numberDouble\":\"1.5\"}}\n".as_slice());
+    Ok(())
+}
+
+/// Numbers are compared by value, whatever their types.
+#[test]
+fn serve_by_value(rt: HostRuntime) {
+    let alloc = rt.alloc();
+    // {"a":1.5}, {"a":2}
+    let bytes = b"\x10\0\0\0\x01a\0\0\0\0\0\0\0\xf8\x3f\0\x0c\0\0\0\x10a\0\x02\0\0\0\0";
+    let commands = b"{\"explain\":{\"a\":{\"$lt\":1.75}}}\n";
+    let mut file = MemoryInput::new(bytes, 28, None);
+    let mut commands = MemoryInput::new(commands, 40, None);
+    let mut buffer = [0; 200];
+    let mut out = MemoryOutput::new(&mut buffer, 200, None);
+    let mut reported = [0; 100];
+    let mut err = MemoryOutput::new(&mut reported, 100, None);
+    let status = serve(
+        alloc,
+        "bsonwide",
+        false,
+        &mut file,
+        &mut commands,
+        &mut out,
+        &mut err,
+    );
+    assert!(rt; status == Status::Done);
+    assert!(rt;
+        out.bytes()
+            .ends_with(b"\"matches\":{\"$numberLong\":\"1\"}}\n")
+    );
 }

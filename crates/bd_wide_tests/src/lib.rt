@@ -1,7 +1,13 @@
-//! The examples of `bsonwide`'s crates, and rows of numbers, over their public calls.
+//! The examples of `bsonwide`'s crates, numbers, texts of documents, questions and sessions, over their public calls.
 #![tactic(auto)]
 
+#[cfg(test)]
+mod dump;
 #[cfg(test)]
 mod examples;
 #[cfg(test)]
 mod numbers;
+#[cfg(test)]
+mod printer;
+#[cfg(test)]
+mod service;

@@ -1,6 +1,6 @@
 //! Sessions by value over a dump without doubles and decimal128. The expected texts are worked by hand.
 
-use crate::talk::replies;
+use crate::service::talk::replies;
 use std::alloc::AllocError;
 
 /// {"a":1}, {"a":2}, {"a":1}

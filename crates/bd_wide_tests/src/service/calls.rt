@@ -1,6 +1,6 @@
 //! Commands by value, and commands that are refused. The expected texts are worked by hand.
 
-use crate::talk::replies;
+use crate::service::talk::replies;
 use std::alloc::AllocError;
 
 /// {"a":1.5}, {"a":2}, {"a":NaN}

@@ -1,37 +1,8 @@
-//! The example of the crate's documentation, and other sessions.
+//! The documents of batches.
 
 use bd_cli_scan::Status;
 use bd_io_device::{MemoryInput, MemoryOutput};
 use bd_wide_service::serve::serve;
-
-/// Numbers are compared by value, whatever their types.
-#[test]
-fn serve_by_value(rt: HostRuntime) {
-    let alloc = rt.alloc();
-    // {"a":1.5}, {"a":2}
-    let bytes = b"\x10\0\0\0\x01a\0\0\0\0\0\0\0\xf8\x3f\0\x0c\0\0\0\x10a\0\x02\0\0\0\0";
-    let commands = b"{\"explain\":{\"a\":{\"$lt\":1.75}}}\n";
-    let mut file = MemoryInput::new(bytes, 28, None);
-    let mut commands = MemoryInput::new(commands, 40, None);
-    let mut buffer = [0; 200];
-    let mut out = MemoryOutput::new(&mut buffer, 200, None);
-    let mut reported = [0; 100];
-    let mut err = MemoryOutput::new(&mut reported, 100, None);
-    let status = serve(
-        alloc,
-        "bsonwide",
-        false,
-        &mut file,
-        &mut commands,
-        &mut out,
-        &mut err,
-    );
-    assert!(rt; status == Status::Done);
-    assert!(rt;
-        out.bytes()
-            .ends_with(b"\"matches\":{\"$numberLong\":\"1\"}}\n")
-    );
-}
 
 /// The documents of a batch are those of the dump.
 #[test]

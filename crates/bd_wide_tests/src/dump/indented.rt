@@ -2,7 +2,7 @@
 
 ghost use Rattle.std.specs.Prelude.{◌≤◌, length};
 
-use crate::lines::EACH_TYPE;
+use crate::dump::lines::EACH_TYPE;
 use bd_bson_check::{Profile, check_bytes};
 use bd_wide_dump::{JsonFormat, indent_projected, indent_wide, read_fields};
 use std::alloc::{AllocError, Global};
