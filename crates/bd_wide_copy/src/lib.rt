@@ -3,7 +3,7 @@
 //! A copy has an int32 or an int64 for each number, so `bsonfind` reads it, and none of its documents is longer. Document n of the copy
 //! is document n of the dump. Which numbers are an int64: `specs/Classes.antt`. What is a copy: `specs/Copy.antt`; the numbers of documents: `specs/Numbers.antt`; dumps: `specs/Dump.antt`.
 //!
-//! An example, which `bd_wide_copy_tests` proves and runs as `examples::copy`:
+//! An example, which `bd_wide_query_tests` proves and runs as `examples::copy`:
 //!
 //! ```
 //! // {"d":1.5}, and {"d":int32 7}

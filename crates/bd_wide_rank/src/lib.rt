@@ -3,7 +3,7 @@
 //! What a number is worth: `specs/Worth.antt`; its code among other numbers: `specs/Rank.antt`; the numbers of a table:
 //! `specs/Table.antt`.
 //!
-//! An example, which `bd_wide_rank_tests` proves and runs as `examples::prices`:
+//! An example, which `bd_wide_query_tests` proves and runs as `examples::prices`:
 //!
 //! ```
 //! // The decimal128 29.95, and the double next to it, which is less.

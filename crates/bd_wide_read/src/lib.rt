@@ -3,7 +3,7 @@
 //! Which double a text means: `specs/DoubleText.antt`, over the numbers of RFC 8259 (`specs/JsonNumber.antt`). Which decimal128:
 //! `specs/DecimalText.antt`.
 //!
-//! An example, which `bd_wide_read_tests` proves and runs as `examples::read`:
+//! An example, which `bd_wide_pack_tests` proves and runs as `examples::read`:
 //!
 //! ```
 //! assert!(rt; read_double(b"1.5") == Ok(0x3ff8_0000_0000_0000));

@@ -11,7 +11,7 @@
 //! What the two texts are: `specs/Substitutes.antt`, `specs/Made.antt`. What a fault of one of them says of the line: `specs/Reported.antt`.
 //! Which two documents, or which fault, they are together: `specs/Both.antt`.
 //!
-//! An example, which `bd_wide_read_tests` proves and runs as `examples::substituted`:
+//! An example, which `bd_wide_pack_tests` proves and runs as `examples::substituted`:
 //!
 //! ```
 //! let mut made = Substituted::new(alloc);

@@ -1,6 +1,6 @@
 //! Dumps of several documents.
 
-use crate::copies::{COPY, DOCUMENT, Seven};
+use crate::copy::copies::{COPY, DOCUMENT, Seven};
 use bd_wide_copy::{Longs, read_wide_dump, write_copy};
 use std::test::Fail;
 

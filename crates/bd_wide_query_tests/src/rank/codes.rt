@@ -1,5 +1,5 @@
 //! Tables, and the codes of numbers.
-use crate::rising::{COUNT, rising};
+use crate::rank::rising::{COUNT, rising};
 use bd_bson_view::ElementType;
 use bd_value::Kind;
 use bd_wide_number::Number;

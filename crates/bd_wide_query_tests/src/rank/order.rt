@@ -1,5 +1,5 @@
 //! The order of two numbers.
-use crate::rising::{COUNT, rising};
+use crate::rank::rising::{COUNT, rising};
 use bd_wide_number::Number;
 use bd_wide_rank::{compare_numbers, worths_are_in_order};
 use std::cmp::Ordering;
