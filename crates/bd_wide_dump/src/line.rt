@@ -185,7 +185,7 @@ fn append_kept(
     }
 }
 
-/// The same for a scalar in relaxed form.
+/// The same for a scalar in relaxed form: apart, since its view would be set to zero for each scalar in canonical form too.
 #[inline(never)]
 fn append_relaxed_scalar(
     kind: Kind,

@@ -71,6 +71,7 @@ fn put_double_in(bare: bool, bits: u64, buffer: &mut [u8], end: usize) -> usize
     if bare {
         return put_double(bits, buffer, end);
     }
+    // A copy of its own cannot overlap the buffer, so nothing is compared before it.
     let lead = *b"{\"$numberDouble\":\"";
     let at = put(&lead, buffer, end);
     let at = put_double(bits, buffer, at);
