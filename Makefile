@@ -4,6 +4,7 @@
 # make quick      passes what needs no proof, over the programs that are built or installed, in a few minutes
 # make lint       looks at scripts and pages by mypy, pyflakes, shellcheck and man; what is missing is named
 # make edits      tries wrong bodies, of CRATE alone where it is given, on all processors but one: the proofs must refuse each
+# make release    runs what make test does not, such as all edits and hostile inputs, and names what it could not run
 # make reference  writes docs/REFERENCE.md from the sources
 # make bench      times the commands over a dump of MB megabytes, 20 without it, of documents of a KIND, mixed without it, and draws docs/performance.svg; of several MB how cost grows
 # make install    puts the programs, bsonkit, their man pages, completions, licence, documents and package of Python below PREFIX
@@ -34,7 +35,7 @@ WAY = $(shell $(PYTHON) -c 'import os, sys; print(os.path.relpath(os.path.dirnam
 FOLDERS = $(shell cd python/bsonfind && find . -type d ! -name __pycache__)
 MODULES = $(shell cd python/bsonfind && find . -name '*.py' -o -name py.typed -o -name VERSION)
 
-.PHONY: all build look test quick lint edits reference bench install uninstall deb dist clean
+.PHONY: all build look test quick lint edits release reference bench install uninstall deb dist clean
 
 all: build bsonkit
 
@@ -68,6 +69,9 @@ lint:
 
 edits:
 	@tests/edits.sh $(CRATE)
+
+release:
+	@tests/release.py $(NAMES)
 
 reference:
 	@$(PYTHON) tools/reference.py

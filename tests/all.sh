@@ -63,9 +63,10 @@ for crate in bd_growth_tests bd_wide_growth_tests; do
 		add
 	else
 		echo "the gate left no tests of crates/$crate: tests/faults/growing_calls.py was not run over them"
+		failed=$((failed + 1))
 	fi
 done
-for script in docs/examples.py docs/reference.py docs/imports.py docs/clauses.py docs/words.py; do
+for script in docs/examples.py docs/reference.py docs/imports.py docs/clauses.py docs/words.py docs/layout.py; do
 	"tests/$script" | tee "$log"
 	add
 done

@@ -7,6 +7,8 @@ from pathlib import Path
 ROOT = Path(__file__).resolve().parent.parent
 # ./bsonfind, or the program of BSONFIND. `bsonwide` stands beside it.
 PROGRAM = Path(os.environ.get("BSONFIND") or ROOT / "bsonfind").absolute()
+# The status of a script that could run nothing, since the machine lacks what it needs.
+SKIPPED = 77
 
 
 def lines_of_synopsis(program: str) -> list[str]:

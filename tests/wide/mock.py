@@ -5,7 +5,7 @@
 
 The program is `bsonfind`, with `bsonwide` beside it. mongomock (Debian's python3-mongomock) compares Python's numbers, so int32, int64 and
 doubles exactly, but orders no NaN, no decimal128 and no arrays of a sort as MongoDB does: dumps have none of these where they are sorted.
-A Python without mongomock or pymongo's `bson` passes nothing and fails nothing, and the script says so.
+Without mongomock or pymongo's `bson` the last line says that the script was skipped, and the status is 77.
 """
 
 import random
@@ -16,7 +16,7 @@ from pathlib import Path
 sys.path[:0] = [str(Path(__file__).resolve().parents[1]), str(Path(__file__).resolve().parents[2] / "python")]
 
 from support import PROGRAM as BUILT
-from support import Tests
+from support import SKIPPED, Tests
 
 from bsonfind import find
 
@@ -24,9 +24,8 @@ try:
     import bson
     import mongomock
 except ImportError as error:
-    print(f"{error}: nothing was compared")
-    print("0 passed, 0 failed")
-    sys.exit(0)
+    print(f"skipped: nothing was compared: {error}")
+    sys.exit(SKIPPED)
 
 PROGRAM = str(Path(sys.argv[1]).resolve()) if len(sys.argv) > 1 else str(BUILT)
 DUMPS = int(sys.argv[2]) if len(sys.argv) > 2 else 50
