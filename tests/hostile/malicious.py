@@ -9,6 +9,7 @@ caches and for other work of the machine. What is known to grow otherwise is hel
 the limits, a document of 16 MiB among them.
 """
 
+import ctypes
 import json
 import os
 import resource
@@ -188,6 +189,13 @@ class Case(NamedTuple):
     most: int | None = None
 
 
+# Starts a program below a shell that ends, and prints the program's number; the program begins once standard input is closed. What a
+# process took counts from the process that started it on: of a shell that is little, of this Python more than most runs take.
+SHELL = 'given=$1 out=$2 err=$3; shift 3; exec 3<&0; (read -r _ <&3; exec "$@" <"$given" >"$out" 2>"$err" 3<&-) & echo $!'
+# Of prctl(2): a process whose parent ended becomes a child of this one, which then reads what it took.
+PR_SET_CHILD_SUBREAPER = 36
+
+
 def limited() -> None:
     """Limits a run, in its own process before it begins."""
     resource.setrlimit(resource.RLIMIT_STACK, (STACK, STACK))
@@ -222,11 +230,12 @@ class Tests:
 
     def run(self, words: list[str]) -> Ran:
         words = [str(self.dump) if word == "DUMP" else word for word in words]
-        with self.given.open("rb") as given, self.out.open("wb") as out, self.err.open("wb") as err:
-            started = subprocess.Popen([PROGRAM, *words], stdin=given, stdout=out, stderr=err, preexec_fn=limited)
-            _, status, used = os.wait4(started.pid, 0)
-            started.returncode = os.waitstatus_to_exitcode(status)
-        return Ran(started.returncode, used.ru_utime + used.ru_stime, used.ru_maxrss, self.err.read_text(errors="replace"))
+        command = ["/bin/sh", "-c", SHELL, "sh", self.given, self.out, self.err, PROGRAM, *words]
+        with subprocess.Popen(command, stdin=subprocess.PIPE, stdout=subprocess.PIPE, text=True, preexec_fn=limited) as shell:
+            number = int(shell.stdout.readline())
+            shell.wait()
+        _, status, used = os.wait4(number, 0)
+        return Ran(os.waitstatus_to_exitcode(status), used.ru_utime + used.ru_stime, used.ru_maxrss, self.err.read_text(errors="replace"))
 
     def measure(self, case: Case, times: int) -> tuple[bool, list[Ran]]:
         """The least of some runs of each size, and whether all were right."""
@@ -273,7 +282,7 @@ def counted(file: Path) -> int:
 
 def tells(wanted: str) -> Callable[[Ran, Path], bool]:
     """Whether this is told at the beginning, and a count of all documents where it has a place for it."""
-    return lambda ran, room: ran.told.startswith(wanted.format(count=counted(room / "given") if "{count}" in wanted else None))
+    return lambda ran, room: ran.told.startswith(wanted.replace("{count}", str(counted(room / "given"))) if "{count}" in wanted else wanted)
 
 
 def are_packed(ran: Ran, room: Path) -> bool:
@@ -505,6 +514,8 @@ def test_limits(tests: Tests) -> None:
 
 
 def main() -> int:
+    if ctypes.CDLL(None, use_errno=True).prctl(PR_SET_CHILD_SUBREAPER, 1, 0, 0, 0):
+        raise OSError(ctypes.get_errno(), "prctl")
     with tempfile.TemporaryDirectory() as room:
         tests = Tests(Path(room))
         test_limits(tests)
