@@ -9,10 +9,9 @@ from itertools import chain
 from typing import Callable, Generator, Iterator, NamedTuple, Sequence, Union
 from uuid import UUID
 
-from .._dumps.archive import Archive, is_archive
-from .._dumps.archive_frames import Namespace, joined_pieces
-from .._dumps.files import HEAD, member_of, name_in
-from .._dumps.gzip import is_gzip
+from .._dumps.archive import Archive
+from .._dumps.archive_frames import Namespace
+from .._dumps.files import name_in
 from .._dumps.runs import texts_of_values
 from .._dumps.sources import Source, Watch
 from .._errors import BsonfindError, is_finding, why
@@ -98,14 +97,10 @@ class _Grep:
                 yield [Problem(name, name, dump.error, dump.is_fault)]
                 return
             with Source(name) as source, self._progress.over(source):
-                pieces = joined_pieces(source.raw(), HEAD)
-                head = next(pieces)
-                pieces = chain([head], pieces)
-                if is_archive(head) and not member_of(name):
-                    yield from self._items_of_archive(name, Archive(pieces))
+                if source.is_archive:
+                    yield from self._items_of_archive(name, Archive(source.raw()))
                 else:
-                    is_packed = source.is_packed or name == "-" and is_gzip(head)
-                    yield from self._search(name, name, source.unpacked(pieces) if is_packed else pieces)
+                    yield from self._search(name, name, source.pieces())
         except (BsonfindError, OSError) as error:
             yield [self._problem(name, name, error)]
         self._progress.add_file()

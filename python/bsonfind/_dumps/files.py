@@ -13,8 +13,8 @@ from .archive_frames import Namespace
 
 # As many bytes as say what a file is.
 HEAD = 1 << 12
-# What is between the name of an archive and that of a collection in it.
-INSIDE = "::"
+# What is between the name of an archive and that of a collection in it, and the name of standard input, which may be an archive.
+INSIDE, STDIN = "::", "-"
 
 
 class FileState(NamedTuple):
@@ -56,7 +56,7 @@ def member_of(path: File) -> Member | None:
         at = name.rfind(INSIDE)
         while at >= 0:
             archive, inside = name[:at], name[at + len(INSIDE) :]
-            if inside and os.path.exists(archive) and not os.path.isdir(archive):
+            if inside and (archive == STDIN or os.path.exists(archive) and not os.path.isdir(archive)):
                 return Member(archive, Namespace.of(inside))
             at = name.rfind(INSIDE, 0, at)
     return None

@@ -5,7 +5,7 @@ from __future__ import annotations
 import os
 import select
 import stat
-from contextlib import AbstractContextManager, nullcontext, suppress
+from contextlib import AbstractContextManager, contextmanager, nullcontext, suppress
 from typing import Any, BinaryIO, ContextManager, Iterable, Iterator, NamedTuple, Protocol
 
 from .._arguments import File, name_of
@@ -13,7 +13,8 @@ from .._errors import DumpError
 from .._run.processes import Dump
 from . import framing, gzip
 from .archive import Listed, documents_of, is_archive
-from .files import HEAD, INSIDE, FileState, member_of
+from .files import HEAD, INSIDE, STDIN, FileState, member_of
+from .kinds import is_known, other_kind
 
 _PIECE = 1 << 18
 
@@ -32,6 +33,8 @@ class Source(AbstractContextManager["Source"]):
     The name `-` is that of standard input, which is read from where it is. A file can be read as often as is needed, and is
     refused once it is no longer as it was when it was opened. A pipe with a name is opened once it is read, since that waits.
 
+    What begins as gzip is unpacked, whatever its name is; an archive, and a file of another program such as tar, is refused by what it is.
+
     The errors do not name it, unless that is asked for: whoever reads many adds the name.
     """
 
@@ -39,8 +42,9 @@ class Source(AbstractContextManager["Source"]):
         self.name, self._is_named = name_of(path), is_named
         self._member = member_of(self.name)
         self._path = self._member.archive if self._member else self.name
-        self.is_packed = self._member is not None or self.name.endswith(".gz")
         self._file: BinaryIO | None = None
+        # The first bytes of a pipe or a device, once they are read and until they are passed on.
+        self._kept: bytes | None = None
         self.size: int | None = None
         # What says whether a file is still the same.
         self.state: FileState | None = None
@@ -52,7 +56,7 @@ class Source(AbstractContextManager["Source"]):
         # What went wrong with the file where the last inputs end.
         self.errors: list[Exception] = []
         try:
-            is_pipe = self.name != "-" and stat.S_ISFIFO(os.stat(self._path).st_mode)
+            is_pipe = self._path != STDIN and stat.S_ISFIFO(os.stat(self._path).st_mode)
         except OSError:
             is_pipe = False  # Whoever opens it says what is wrong with it.
         if not is_pipe:
@@ -67,10 +71,10 @@ class Source(AbstractContextManager["Source"]):
         """The open file. Where it is named an error is as the program says it."""
         if self._file is None:
             try:
-                self._file = _standard_input() if self.name == "-" else open(self._path, "rb", buffering=0)
+                self._file = _standard_input() if self._path == STDIN else open(self._path, "rb", buffering=0)
             except OSError as error:
                 text = str(error.strerror)
-                if self._is_named and self.name == "-":
+                if self._is_named and self._path == STDIN:
                     text = f"cannot read standard input: {text}"
                 elif self._is_named:
                     is_directory = isinstance(error, IsADirectoryError)
@@ -79,30 +83,64 @@ class Source(AbstractContextManager["Source"]):
         return self._file
 
     @property
+    def head(self) -> bytes:
+        """The first bytes, as many as say what it is. Those of a pipe are waited for, and kept for whoever reads it."""
+        if self.size is not None:
+            return os.pread(self.file.fileno(), HEAD, self._start)
+        if self._kept is None:
+            self._kept = b""
+            with self._naming():
+                while not is_known(self._kept) and (piece := read_some(self.file, HEAD - len(self._kept))):
+                    self._kept += piece
+        return self._kept
+
+    @property
+    def is_packed(self) -> bool:
+        """Whether it is unpacked: a collection of an archive, or what gzip made, by its name or by its first bytes."""
+        return self._member is not None or self.name.endswith(".gz") or gzip.is_gzip(self.head)
+
+    @property
     def is_plain(self) -> bool:
         """Whether it is a file that is read as it is, from its beginning."""
-        return self.size is not None and not self.is_packed and not self._start
+        return self.size is not None and not self._start and not self.is_packed
 
     @property
     def is_archive(self) -> bool:
-        """Whether it is an archive, and not one of its collections, by its first bytes. Those of a pipe would be lost."""
-        return self.size is not None and self._member is None and is_archive(os.pread(self.file.fileno(), HEAD, self._start))
+        """Whether it is an archive, and not one of its collections, by its first bytes."""
+        return self._member is None and is_archive(self.head)
 
-    def refuse_archive(self) -> None:
+    def refuse_others(self) -> None:
+        """Refuses what is no dump by its first bytes: an archive, or a file of another program."""
         if self.is_archive:
             raise DumpError(f"an archive: name one of its collections, {self.name}{INSIDE}db.collection, or unpack it")
+        if self._member is None:
+            _refuse_other(self.head)
 
     def dump(self) -> Dump:
         if not self.is_plain:
             return Dump(self.pieces())
-        self.refuse_archive()
+        self.refuse_others()
         self.file.seek(0)
         return Dump(file=self.file)
 
     def pieces(self) -> Iterator[bytes]:
         """All bytes of the dump, unpacked where it is packed. One that is damaged is an `UnpackError` after what comes before."""
-        self.refuse_archive()
-        return self.unpacked(self.raw()) if self.is_packed else self.raw()
+        if self.size is not None:
+            self.refuse_others()
+        return self._pieces()
+
+    def _pieces(self) -> Iterator[bytes]:
+        """The same; a pipe is waited for once they are read."""
+        self.refuse_others()
+        if not self.is_packed:
+            yield from self.raw()
+            return
+        pieces = self.unpacked(self.raw())
+        for piece in pieces:
+            _refuse_other(piece)  # such as a tar that gzip made smaller
+            yield piece
+            break
+        yield from pieces
 
     def unpacked(self, raw: Iterator[bytes]) -> Iterator[bytes]:
         """The bytes of a dump that is packed, out of those of its file."""
@@ -111,13 +149,13 @@ class Source(AbstractContextManager["Source"]):
     def inputs(self, most: int | None = None) -> Iterator[Input]:
         """What runs read one after the other, at most this many bytes each, or as many as a run can; an error of the file comes last."""
         limit = framing.LARGEST_INPUT if most is None else most
-        if self.is_packed or self.size is None or self.size > limit:
+        if self.size is None or self.size > limit or self.is_packed:
             for offset, first, pieces in framing.inputs(up_to_error(self.pieces(), self.errors), limit):
                 yield Input(offset, first, Dump(pieces))
             if self.errors:
                 raise self.errors[0]
         else:
-            self.refuse_archive()
+            self.refuse_others()
             self.file.seek(self._start)
             yield Input(0, 0, Dump(file=self.file))
             self.check()
@@ -132,17 +170,26 @@ class Source(AbstractContextManager["Source"]):
         self._read = 0
         if self.size is not None:
             os.lseek(self.file.fileno(), self._start, os.SEEK_SET)
-        try:
+        if self._kept:
+            kept, self._kept = self._kept, b""
+            yield kept
+        with self._naming():
             while piece := read_some(self.file, _PIECE):
                 self._read += len(piece)
                 yield piece
+        if self.size is not None and self._read < self.size:
+            raise DumpError(f"no bytes at byte {self._start + self._read}: the file became shorter")
+        self.check()
+
+    @contextmanager
+    def _naming(self) -> Iterator[None]:
+        """Has an error of the system be one of the dump, where that is asked for."""
+        try:
+            yield
         except OSError as error:
             if not self._is_named:
                 raise
             raise DumpError(f"cannot read {self.name}: {error.strerror}") from error
-        if self.size is not None and self._read < self.size:
-            raise DumpError(f"no bytes at byte {self._start + self._read}: the file became shorter")
-        self.check()
 
     def check(self) -> None:
         """Refuses a file that is no longer as it was when it was opened, as long as it is open."""
@@ -175,6 +222,11 @@ class Watch(Protocol):
 
 class Unwatched(Watch):
     """A watch that prints nothing."""
+
+
+def _refuse_other(head: bytes) -> None:
+    if kind := other_kind(head):
+        raise DumpError(f"a file of {kind}, and no dump: unpack it, and name the dumps in it")
 
 
 def _standard_input() -> BinaryIO:
