@@ -17,6 +17,7 @@ from bsonfind._backup.audit import audit
 from bsonfind._command.console import progress_of
 
 from .archives import archive
+from .bson import decimal, document, double, field, int32, string
 from .support import (
     COMMAND, DAMAGED, DOUBLE, PATIENCE, PEOPLE, PROGRAM, ROOT, SHOP, Room, environment, run_on_terminal, run_package,
 )  # fmt: skip
@@ -51,10 +52,13 @@ class Audits(Room):
         return str(self.file(data, f"backup/club/{name}.bson"))
 
     def audit(self, *words: str, status: int, told: str = "") -> list:
-        """The lines that an audit prints."""
+        """The lines that an audit prints, but the last one, which says that ids were not compared."""
         run = run_package("audit", *words)
         self.assertEqual((run.returncode, run.stderr), (status, told))
-        return run.stdout.splitlines()
+        lines = run.stdout.splitlines()
+        is_told = lines[-1:] == ["ids were not compared: --ids reports those that several documents have"]
+        self.assertEqual(is_told, bool(lines) and not {"--ids", "--json", "--quiet"} & {*words})
+        return lines[:-1] if is_told else lines
 
     def table(self, *rows: tuple) -> list:
         """The lines of a table."""
@@ -480,6 +484,133 @@ class Audits(Room):
         ):
             self.assertIn(f"{self.backup}/{name}: missing: only {metadata} is there", lines)
 
+    def test_time_series_without_metadata(self) -> None:
+        """The metadata of a time series has its own name, and that of the file of its documents has one of its buckets: one is enough."""
+        series = b'{"type":"timeseries","options":{"timeseries":{"timeField":"t"}}}'
+        for stem, name in (("metrics", "metrics"), ("w%2F1", "w/1")):
+            buckets = self.file(DOUBLE, f"backup/club/system.buckets.{stem}.bson")
+            lines = self.audit(self.backup, status=1)
+            self.assertIn(f"{buckets}: metadata: no {stem}.metadata.json beside it", lines)
+            self.assertEqual(lines[-1], self.table(("without metadata", 1))[0])
+            for path in (f"{stem}.metadata.json", f"{stem}.metadata.json.gz", f"system.buckets.{stem}.metadata.json"):
+                beside = self.file(gzip.compress(series) if path.endswith(".gz") else series, f"backup/club/{path}")
+                self.audit(self.backup, status=0)
+                beside.unlink()
+            beside = self.file(b"{", f"backup/club/{stem}.metadata.json")
+            lines = self.audit(self.backup, status=1)
+            self.assertEqual([it for it in lines if stem in it][1][: len(f"{buckets}: metadata: {stem}.metadata.json: ")], f"{buckets}: metadata: {stem}.metadata.json: ")
+            self.assertEqual(lines[-1], self.table(("without metadata", 1))[0])
+            beside.unlink()
+            # Of a file that is named by itself no metadata is wanted.
+            self.audit(str(buckets), status=0)
+            buckets.unlink()
+
+    def test_long_time_series_without_metadata(self) -> None:
+        """The name of the file of its buckets is shortened, so that it does not say the one of the metadata."""
+        name = "n" * 230
+        digest = base64.urlsafe_b64encode(hashlib.sha1(f"system.buckets.{name}".encode()).digest()).decode().rstrip("=")
+        buckets = self.file(DOUBLE, f"backup/club/system.buckets.{'n' * 193}%24{digest}.bson")
+        for other, status in ((name, 0), (name[1:], 1)):
+            metadata = json.dumps({"collectionName": other, "type": "timeseries"}).encode()
+            beside = self.file(metadata, f"backup/club/{other}.metadata.json")
+            lines = self.audit(self.backup, status=status)
+            beside.unlink()
+        self.assertIn(f"{buckets}: metadata: no metadata of its time series beside it", lines)
+
+    def test_log_of_a_dump_that_failed(self) -> None:
+        """mongodump says so, or that a signal came, or it was killed while it wrote a collection: nothing of that is in the counts."""
+        log, time = self.room / "log", "2026-11-25T10:00:03.000+0000\t"
+        for line, told in (
+            ("Failed: error dumping metadata: not authorized", "Failed: error dumping metadata: not authorized"),
+            ("signal 'interrupt' received; attempting to shut down", "signal 'interrupt' received; attempting to shut down"),
+            ("writing club.b to backup/club/b.bson", "writing club.b to backup/club/b.bson: no later line says that it is done"),
+            ("writing club.a to b to backup/club/a to b.bson", "writing club.a to b to backup/club/a to b.bson: no later line says that it is done"),
+            ("writing club.b", "writing club.b: no later line says that it is done"),
+        ):
+            log.write_text(f"{LOG}{time}{line}\n")
+            lines = self.audit(self.backup, "--expect", str(log), status=1)
+            self.assertEqual(lines[2], f"{log}: line 4: {told}")
+            self.assertEqual(lines[3:], self.table(("files", 2), ("documents", 900), ("faulty", 0), ("failures in the log", 1)))
+            (line,) = self.audit(self.backup, "--expect", str(log), "--json", status=1)
+            self.assertEqual((json.loads(line)["good"], json.loads(line)["failures"]), (False, [f"{log}: line 4: {told}"]))
+            self.assertEqual(self.audit(self.backup, "--expect", str(log), "--quiet", status=1), lines[2:])
+
+    def test_log_of_a_dump_that_ended_well(self) -> None:
+        """What was begun is done, by either name of a time series; other lines are about no collection."""
+        series = b'{"type":"timeseries","options":{"timeseries":{"timeField":"t"}}}'
+        self.file(series, "backup/club/w.metadata.json")
+        self.file(DOUBLE, "backup/club/system.buckets.w.bson")
+        log, time = self.room / "log", "2026-11-25T10:00:03.000+0000\t"
+        for lines in (
+            ("writing club.w to backup/club/system.buckets.w.bson", "done dumping club.system.buckets.w (1 document)"),
+            ("writing club.system.buckets.w to archive on stdout", "done dumping club.w (1 document)"),
+            ("writing `club.w` to backup/club/w.bson", "done dumping `club.w` (1 document)"),
+            ("writing captured oplog to backup/oplog.bson", "done dumping club.w (1 document)"),
+            ("writing club.w metadata to backup/club/w.metadata.json", "done dumping club.w (1 document)"),
+        ):
+            log.write_text(LOG + "".join(f"{time}{line}\n" for line in lines))
+            self.audit(self.backup, "--expect", str(log), status=0)
+        # One that is begun again after it was done.
+        log.write_text(LOG + "".join(f"{time}{line}\n" for line in ("done dumping club.w (1 document)", "writing club.w to w.bson")))
+        self.assertIn(f"{log}: line 5: writing club.w to w.bson: no later line says that it is done", self.audit(self.backup, "--expect", str(log), status=1))
+
+    def test_one_count_of_a_file_that_was_cut(self) -> None:
+        """The line beside the log has the count of the line of the file."""
+        cut = self.collection(PEOPLE.read_bytes()[:50_000], "old")
+        log = self.file(f"{LOG}done dumping club.old (500 documents)\n".encode(), "log")
+        lines = self.audit(self.backup, "--expect", str(log), status=1)
+        self.assertIn(f"{cut}: 273 documents and a rest of 256 bytes, 1 faulty", lines)
+        self.assertIn(f"{cut}: 273 documents and a rest of 256 bytes in place of 500", lines)
+
+    def test_repeated_ids(self) -> None:
+        """Each `_id` of several documents, by --ids: of a dump, a packed one, a pipe and an archive. Numbers are the same by their values."""
+        seven, a, x = field(0x10, "_id", int32(7)), string("_id", "a"), field(0x10, "x", int32(1))
+        others = field(0x01, "_id", double(7.0)), field(0x13, "_id", decimal(700, -2)), field(0x10, "_id", int32(8))
+        data = b"".join(map(document, (seven, a, others[2], others[0], x, x, others[1], a)))
+        path, packed_one = self.file(data, "a.bson"), self.file(gzip.compress(data), "b.bson.gz")
+        whole = self.file(archive([("club", "c", data), ("club", "people", PEOPLE.read_bytes())]), "c.archive")
+        for name, dump, files, documents in ((path, path, 1, 8), (packed_one, packed_one, 1, 8), (whole, f"{whole}::club.c", 2, 508)):
+            lines = self.audit(str(name), "--ids", status=1)
+            found = [line for line in lines if line.startswith(f"{dump}: ")]
+            self.assertEqual(found, [f'{dump}: repeated "a": 2 documents', f'{dump}: repeated {{"$numberDouble":"7.0"}}: 3 documents', f"{dump}: 8 documents, 0 faulty"])
+            rows = ("files", files), ("documents", documents), ("faulty", 0), ("with repeated ids", 1)
+            self.assertEqual(lines[-4:], self.table(*rows))
+        (line,) = self.audit(str(path), "--ids", "--json", status=1)
+        self.assertEqual((json.loads(line)["good"], json.loads(line)["files"][0]["repeated"]), (False, 2))
+        self.assertEqual(self.audit(str(path), "--ids", "--max-faults", "1", status=1)[1], f"{path}: and 1 more ids")
+        (line,) = self.audit(str(PEOPLE), "--ids", "--json", status=0)
+        self.assertEqual(json.loads(line)["files"][0]["repeated"], 0)
+        self.assertEqual(self.audit(self.backup, "--ids", "--quiet", status=0), [])
+        run = run_package("audit", "-", "--ids", input="")
+        self.assertEqual(run.returncode, 0)
+        with open(path, "rb") as file, subprocess.Popen(["cat"], stdin=file, stdout=subprocess.PIPE) as cat:
+            run = subprocess.run([*COMMAND, "audit", "-", "--ids"], stdin=cat.stdout, env=environment(), capture_output=True, text=True)
+        self.assertEqual((run.returncode, run.stdout.splitlines()[0]), (1, '-: repeated "a": 2 documents'))
+
+    def test_repeated_ids_of_damaged_files(self) -> None:
+        """Those of documents with a fault count too; an id that has a fault itself has no text."""
+        bad = field(0x02, "_id", int32(2) + b"\xff\0")
+        path = self.collection(document(bad) + document(field(0x10, "_id", int32(1)), field(0x08, "d", b"\2")) + document(field(0x10, "_id", int32(1))) + document(bad), "x")
+        lines = self.audit(path, "--ids", status=1)
+        repeats = [line for line in lines if "repeated" in line]
+        self.assertEqual(repeats[:2], [f"{path}: repeated _id that has a fault: 2 documents", f'{path}: repeated {{"$numberInt":"1"}}: 2 documents'])
+
+    def test_names_that_may_hold_a_dump(self) -> None:
+        """They are named, and not read; their metadata is not said to be alone."""
+        names = [f"backup/club/b.bson{it}" for it in (".zst", ".xz", ".bz2", ".gz.part", ".gz.gpg")] + ["backup/club/b.BSON", "backup/club/c.Bson.GZ"]
+        self.file(b"{}", "backup/club/b.metadata.json")
+        for name in names:
+            path = self.file(b"what it is does not matter", name)
+            lines = self.audit(self.backup, status=2)
+            self.assertIn(f"{path}: not read: the name of a dump ends in .bson or .bson.gz", lines)
+            missing = [] if "/b." in name else [f"{self.backup}/club/b.bson: missing: only b.metadata.json is there"]
+            self.assertEqual([line for line in lines if "missing:" in line], missing)
+            path.unlink()
+        # Such as the metadata of a collection with this name.
+        self.file(DOUBLE, "backup/club/b.bson")
+        self.collection(DOUBLE, "x.bson")
+        self.audit(self.backup, status=0)
+
     def test_files_beside_dumps(self) -> None:
         """Newer versions of mongodump note their version in one. By its name it is no damage, but not what was to be checked."""
         prelude = self.file(b'{"ServerVersion":"8.0.4","ToolVersion":"100.12.0"}', "backup/prelude.json")
@@ -520,7 +651,7 @@ class Audits(Room):
         log = self.file(LOG.replace("500", "501").encode(), "log")
         none = str(self.room / "none.bson")
         (line,) = self.audit(self.backup, none, "--json", "--expect", str(log), status=2)
-        good = {"faulty": 0, "kinds": {}, "faults": [], "rest": 0, "error": None, "metadata": None}
+        good = {"faulty": 0, "kinds": {}, "faults": [], "rest": 0, "error": None, "metadata": None, "repeated": None}
         fault = {"document": 273, "byte": 49744, "path": "", "kind": "bad length"}
         faults = [{**fault, "value": None, "id": {"$numberInt": "273"}, "goes_on": None}]
         bad = {**good, "faulty": 1, "kinds": {"bad length": 1}, "faults": faults, "rest": 256}
@@ -532,7 +663,7 @@ class Audits(Room):
         ]
         wanted = {
             "good": False, "files": files, "documents": 1174, "faulty": 1, "kinds": {"bad length": 1},
-            "miscounted": [str(self.people)], "untold": [cut], "copies": [], "missing": {},
+            "miscounted": [str(self.people)], "untold": [cut], "copies": [], "missing": {}, "failures": [],
         }  # fmt: skip
         self.assertEqual(json.loads(line), wanted)
         (line,) = self.audit(str(self.orders), "--json", status=0)
@@ -589,7 +720,7 @@ class Audits(Room):
 
     def test_progress_on_a_terminal(self) -> None:
         run, shown = run_on_terminal("audit", self.backup)
-        self.assertEqual(run.stdout.count(b"\n"), 5)
+        self.assertEqual(run.stdout.count(b"\n"), 6)
         self.assertIn(b"1 of 2 files", shown)
         self.assertTrue(shown.endswith(b"\r\x1b[K"), shown)
 
@@ -611,7 +742,7 @@ class Audits(Room):
     def test_closed_streams(self) -> None:
         line = 'exec "$0" -m bsonfind --program "$1" audit "$2" <&- 2>&-'
         run = subprocess.run(["sh", "-c", line, sys.executable, PROGRAM, self.backup], env=environment(), stdout=subprocess.PIPE)
-        self.assertEqual((run.returncode, run.stdout.count(b"\n")), (0, 5))
+        self.assertEqual((run.returncode, run.stdout.count(b"\n")), (0, 6))
         line = 'exec "$0" -m bsonfind --program missing audit "$2" <&- 2>&-'
         run = subprocess.run(["sh", "-c", line, sys.executable, PROGRAM, self.backup], env=environment(), stdout=subprocess.PIPE)
         self.assertEqual((run.returncode, run.stdout), (2, b""))

@@ -4,6 +4,7 @@ from __future__ import annotations
 
 import os
 from concurrent.futures import ThreadPoolExecutor, as_completed
+from contextlib import ExitStack
 from dataclasses import dataclass, field, replace
 from typing import Callable, Iterable
 
@@ -16,6 +17,9 @@ from .._dumps.sources import Source, Unwatched, Watch
 from .._errors import ArgumentError, BsonfindError, is_finding, why
 from .._run.processes import Group, processors, wide_program
 from .backups import Dump, dumps_of, fault_of_listed, fault_of_metadata, is_inside, namespace_of, place_of, read_log, text_lines
+from .damage import text_of_id
+from .logs import failures_in
+from .repeats import Repeats
 from .reports import MOST_FAULTS, Audit, Noting, Report
 from .split import split
 
@@ -26,17 +30,21 @@ def audit(
     expect: File | None = None,
     jobs: int | None = None,
     max_faults: int = MOST_FAULTS,
+    ids: bool = False,
     program: str = "bsonfind",
 ) -> Audit:
     """Checks the dumps of one or more names, and those below directories, several at once; `expect` is a log of mongodump.
 
-    Nothing is skipped in silence: what cannot be read has a report with its error.
+    With `ids` it reports each `_id` that several documents of a dump have. Nothing is skipped in silence: what cannot be read has a
+    report with its error.
     """
     jobs, most = None if jobs is None else whole("jobs", jobs, 1), whole("max_faults", max_faults)
+    if not isinstance(ids, bool):
+        raise ArgumentError(f"ids is True or False, not {ids!r}")
     names = [paths] if isinstance(paths, (str, bytes, os.PathLike)) else paths
     if not isinstance(names, Iterable) or not (names := list(names)):
         raise ArgumentError(f"audit takes a name, or some names, not {paths!r}")
-    return audit_dumps(dumps_of(map(name_of, names)), expect, jobs, most, program)
+    return audit_dumps(dumps_of(map(name_of, names)), expect, jobs, most, program, with_ids=ids)
 
 
 def audit_dumps(
@@ -48,13 +56,15 @@ def audit_dumps(
     take: Callable[[Report], None] = lambda _: None,
     watch: Callable[[int, int], Watch] = lambda files, size: Unwatched(),
     take_list: Callable[[str, list[Listed]], None] = lambda name, listed: None,
+    with_ids: bool = False,
 ) -> Audit:
     """Checks dumps, and passes on the report of each as soon as it is there, and the list of its archive; `watch` gets their sizes."""
-    counts = None if expect is None else read_log(text_lines(expect))
+    log = [] if expect is None else text_lines(expect)
+    counts, failures = None if expect is None else read_log(log), failures_in(log)
     wide_program(program)
     sizes = {it.file: it.size or 0 for it in dumps}
     with watch(len(dumps), sum(sizes.values())) as progress:
-        reports = _check_all(dumps, _Checker(max_faults, program, take, take_list, progress), jobs or processors())
+        reports = _check_all(dumps, _Checker(max_faults, program, take, take_list, progress, with_ids), jobs or processors())
     missing: dict[str, int] = {}
     if counts is not None:
         there = _collections(reports, counts)
@@ -62,7 +72,7 @@ def audit_dumps(
             report.compare(counts)
         named = {name for report in there.values() for name in report.names_in_log()}
         missing = {namespace: count for namespace, count in counts.items() if namespace not in named}
-    return Audit(reports, missing)
+    return Audit(reports, missing, [f"{os.fsdecode(expect or '')}: {it}" for it in failures])
 
 
 def _collections(reports: list[Report], counts: dict[str, int]) -> dict[str, Report]:
@@ -104,6 +114,7 @@ class _Checker:
     _take: Callable[[Report], None]
     _take_list: Callable[[str, list[Listed]], None]
     _progress: Watch
+    _with_ids: bool
     group: Group = field(default_factory=Group)
 
     def check(self, names: list[Dump]) -> dict[int, list[Report]]:
@@ -183,9 +194,15 @@ class _Checker:
 
     def _check_documents(self, report: Report, source: Source) -> None:
         checking, noting = Checking(self._program, self.group), Noting(report, self._max_faults)
-        try:
-            for fault in checking.faults(source):
-                noting.add(fault)
-        finally:
-            noting.end(checking.documents, checking.bytes)
+        with ExitStack() as stack:
+            repeats = stack.enter_context(Repeats()) if self._with_ids else None
+            try:
+                for fault in checking.faults(source, repeats.take if repeats else None):
+                    noting.add(fault)
+            finally:
+                noting.end(checking.documents, checking.bytes)
+            if repeats:
+                report.repeated, first = repeats.found(self._max_faults)
+                texts = (text_of_id(it.id, self._program, self.group) for it in first)
+                report.repeats = [(text, it.documents) for text, it in zip(texts, first)]
         noting.look(source, self._program, self.group)

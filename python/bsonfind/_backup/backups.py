@@ -15,7 +15,7 @@ from urllib.parse import quote, unquote
 from .._arguments import File, name_of
 from .._dumps.archive import Listed, kind_of, parsed
 from .._dumps.archive_frames import Namespace, joined_pieces
-from .._dumps.files import file_of, is_whole_archive, member_of
+from .._dumps.files import STDIN, file_of, is_whole_archive, member_of
 from .._dumps.gzip import unpacked
 from .._dumps.outputs import naming
 from .._errors import DumpError, why
@@ -29,13 +29,16 @@ _OPLOG_DUMPED = re.compile(r"dumped (\d+) oplog entr(?:y|ies)")
 _BESIDE = re.compile(r"(\.metadata|^prelude)\.json(\.gz)?$")
 # The names that archives have by custom; below a directory each is known by its first bytes.
 _ARCHIVE = re.compile(r"\.archive(\.gz)?$")
-# A file that is not whole, as `unpack` leaves it.
+# A file that is not whole, as `unpack` leaves it, and any other name by which a file may hold a dump.
 _HALF = re.compile(r"\.bson\.part$")
+_OTHER = re.compile(r"\.bson(\.(?!bson)\w+)*$", re.IGNORECASE)
 # What mongodump does not escape in the name of a collection beside letters, digits and "_.-~"; its longest name of a file without
-# an ending, and how much of a longer one stays before "%24" and a hash.
-_UNESCAPED, _LONGEST_STEM, _KEPT = "$&+:=@", 238, 208
-# The names of dumps that mongodump writes without a file of metadata beside them.
-_BARE = re.compile(r"^(\$admin\..*|system\.(indexes|buckets\..*))\.bson")
+# an ending, how much of a longer one stays, and what is between that and a hash.
+_UNESCAPED, _LONGEST_STEM, _KEPT, _SHORTENED = "$&+:=@", 238, 208, "%24"
+# The names of dumps that mongodump writes without a file of metadata beside them, and those of the documents of a time series, whose
+# metadata has the name of this.
+_BARE = re.compile(r"^(\$admin\..*|system\.indexes)\.bson")
+_BUCKETS = "system.buckets."
 # What is read of a file of metadata at most: mongodump writes some hundred bytes, and as many for each index.
 _LONGEST_METADATA = 1 << 23
 
@@ -77,13 +80,13 @@ def dumps_of(names: Iterable[str]) -> list[Dump]:
 def _look_at(dump: Dump) -> None:
     """Notes the size of a file, and what it is. Standard input that is a file is read from where it is, so it is another one."""
     try:
-        status = os.fstat(0) if dump.name == "-" else os.stat(file_of(dump.name))
+        status = os.fstat(0) if file_of(dump.name) == STDIN else os.stat(file_of(dump.name))
     except OSError as error:
         dump.error = error.strerror
         return
     is_regular, member = stat.S_ISREG(status.st_mode), member_of(dump.name)
     dump.size = status.st_size if is_regular else None
-    dump.file = status.st_dev, status.st_ino, member and member.namespace, is_regular and dump.name == "-"
+    dump.file = status.st_dev, status.st_ino, member and member.namespace, is_regular and file_of(dump.name) == STDIN
 
 
 def dumps_below(directory: str) -> Iterator[Dump]:
@@ -104,7 +107,7 @@ def _found_in(directory: str) -> list[str | Dump]:
             entries = sorted(listed, key=lambda entry: entry.name)
     except OSError as error:
         return [Dump(directory, error=f"cannot read the directory: {error.strerror}")]
-    stems = {it.sub("", entry.name) for entry in entries for it in (_ENDING, _HALF) if it.search(entry.name)}
+    stems = {_OTHER.sub("", it.name) for it in entries if _OTHER.search(it.name) and not _METADATA.search(it.name)}
     found: list[str | Dump] = []
     for entry in entries:
         try:
@@ -129,15 +132,28 @@ def _file_among(entry: os.DirEntry[str], directory: str, stems: set[str]) -> Dum
         return Dump(entry.path, is_below=True, error=None if entry.is_file() else "not a regular file")
     if _HALF.search(entry.name):
         return Dump(entry.path, error="not whole: unpack left it so", is_fault=True)
-    if _METADATA.search(entry.name) and _METADATA.sub("", entry.name) not in stems:
-        stem = stem_wanted(entry.path, read_metadata_file(entry.path)[0])
-        if stem is not None and stem not in stems:
-            return Dump(os.path.join(directory, f"{stem}.bson"), error=f"missing: only {entry.name} is there", is_fault=True)
-    elif is_whole_archive(entry.path):
+    if _METADATA.search(entry.name):
+        return _missing_dump(entry, directory, stems)
+    if is_whole_archive(entry.path):
         return Dump(entry.path, is_below=True)
-    elif _ARCHIVE.search(entry.name):
+    if _ARCHIVE.search(entry.name):
         return Dump(entry.path, error="no archive, by its first bytes", is_fault=True)
+    if _OTHER.search(entry.name):
+        return Dump(entry.path, error="not read: the name of a dump ends in .bson or .bson.gz")
     return None
+
+
+def _missing_dump(entry: os.DirEntry[str], directory: str, stems: set[str]) -> Dump | None:
+    """The dump of a file of metadata, if it is not there."""
+    stem = _METADATA.sub("", entry.name)
+    if stem in stems:
+        return None
+    metadata, wrong = read_metadata_file(entry.path)
+    wanted = stem_wanted(entry.path, metadata)
+    # That of a time series which cannot be read is a fault of the documents of this.
+    if wanted is None or wanted in stems or wrong and f"{_BUCKETS}{stem}" in stems:
+        return None
+    return Dump(os.path.join(directory, f"{wanted}.bson"), error=f"missing: only {entry.name} is there", is_fault=True)
 
 
 def text_lines(path: File) -> list[str]:
@@ -191,7 +207,7 @@ def stem_of(namespace: Namespace) -> str:
     escaped = quote(namespace.collection, _UNESCAPED)
     if len(escaped) > _LONGEST_STEM:
         digest = urlsafe_b64encode(sha1(namespace.collection.encode()).digest()).decode().rstrip("=")
-        escaped = f"{escaped[:_KEPT]}%24{digest}"
+        escaped = f"{escaped[:_KEPT]}{_SHORTENED}{digest}"
     return escaped if is_at_top(namespace) else os.path.join(os.fsdecode(namespace.database.encode()), escaped)
 
 
@@ -200,9 +216,9 @@ def stem_wanted(path: str, metadata: dict[str, Any] | None) -> str | None:
     stem, kind = _METADATA.sub("", os.path.basename(path)), kind_of(metadata)
     if kind == "view":
         return None
-    if kind != "timeseries" or stem.startswith("system.buckets."):
+    if kind != "timeseries" or stem.startswith(_BUCKETS):
         return stem
-    return stem_of(Namespace("", f"system.buckets.{collection_of(path, metadata)}"))
+    return stem_of(Namespace("", f"{_BUCKETS}{collection_of(path, metadata)}"))
 
 
 def collection_of(path: str, metadata: dict[str, Any] | None) -> str:
@@ -239,16 +255,33 @@ def is_at_top(namespace: Namespace) -> bool:
 def fault_of_metadata(name: str, is_below: bool) -> str | None:
     """What is wrong with the metadata beside a dump. A file that is named by itself may have none, and so may the oplog and the like."""
     metadata, error = read_metadata(name)
-    if error:
+    if error or metadata is not None or not is_below:
         return error
-    is_bare = not is_below or _BARE.match(os.path.basename(name)) or is_oplog(name)
-    return None if metadata is not None or is_bare else f"no {os.path.basename(_metadata_names(name)[0])} beside it"
+    directory, base = os.path.split(name)
+    if base.startswith(_BUCKETS):
+        return _fault_of_series(directory, stem_of_file(base))
+    return None if _BARE.match(base) or is_oplog(name) else f"no {os.path.basename(_metadata_names(name)[0])} beside it"
+
+
+def _fault_of_series(directory: str, stem: str) -> str | None:
+    """What is wrong with the metadata of a time series, by the name of the file of its documents without an ending."""
+    name = os.path.join(directory, stem[len(_BUCKETS) :])
+    metadata, error = read_metadata(name)
+    if error or metadata is not None:
+        return error
+    if len(stem) == _LONGEST_STEM and stem[_KEPT:].startswith(_SHORTENED):
+        # The name of the file does not say that of the metadata, but that says this one.
+        files = ((path, found) for path, found, _ in metadata_below(directory) if os.path.dirname(path) == directory)
+        is_there = any(found is not None and stem_wanted(path, found) == stem for path, found in files)
+        return None if is_there else "no metadata of its time series beside it"
+    return f"no {os.path.basename(_metadata_names(name)[0])} beside it"
 
 
 def fault_of_listed(listed: Listed) -> str | None:
     """What is wrong with the metadata that an archive has of a collection. That of the oplog and the like is empty."""
     if not listed.metadata:
-        is_bare = is_at_top(listed.namespace) or _BARE.match(f"{listed.namespace.collection}.bson")
+        collection = listed.namespace.collection
+        is_bare = is_at_top(listed.namespace) or collection.startswith(_BUCKETS) or _BARE.match(f"{collection}.bson")
         return None if is_bare else "none in the archive"
     return parsed(listed.metadata)[1]
 
@@ -256,6 +289,11 @@ def fault_of_listed(listed: Listed) -> str | None:
 def stem_of_file(name: str) -> str:
     """The name of the file of a dump, without an ending."""
     return _ENDING.sub("", name)
+
+
+def stem_of_half(name: str) -> str | None:
+    """The same of a file that `unpack` left, since its collection was not whole; None of another one."""
+    return _HALF.sub("", name) if _HALF.search(name) else None
 
 
 def _metadata_names(name: str) -> list[str]:

@@ -67,10 +67,13 @@ def _detail(window: Window, fault: Fault, start: int, program: str, group: Group
 
 
 def _id_of(head: bytes, program: str, group: Group) -> str | None:
-    """The id as `dump` prints it, by a document that has it alone; None if it is not the first field, or has a fault itself."""
+    """The text of the id of a document; None if it is not the first field, or has a fault itself."""
     value = value_at(head, [b"_id"]) if head[5:9] == b"_id\0" else None
-    if value is None:
-        return None
+    return None if value is None else text_of_id(value, program, group)
+
+
+def text_of_id(value: bytes, program: str, group: Group) -> str | None:
+    """An id as `dump` prints it, by a document that has it alone; None if it has a fault."""
     try:
         (text,) = texts_of_values([value], program, group)
     except DumpError as error:

@@ -49,6 +49,9 @@ class Report:
     is_miscounted: bool = False
     is_untold: bool = False
     copy: str | None = None
+    # How many ids several documents have, None if they were not looked at, and the first of these: its text, if it has one, and how many.
+    repeated: int | None = None
+    repeats: list[tuple[str | None, int]] = field(default_factory=list)
 
     @property
     def faulty(self) -> int:
@@ -63,7 +66,12 @@ class Report:
     @property
     def is_good(self) -> bool:
         """Whether nothing is wrong with the file by itself."""
-        return not (self.faulty or self.error or self.metadata)
+        return not (self.faulty or self.error or self.metadata or self.repeated)
+
+    @property
+    def counted(self) -> str:
+        """How many documents there are, and what is left of one that was cut."""
+        return f"{self.documents - 1} documents and a rest of {self.rest} bytes" if self.rest else f"{self.documents} documents"
 
     def names_in_log(self) -> list[str]:
         """The names that the log may have for the collection: that of a time series is its own, or that of its documents."""
@@ -88,8 +96,11 @@ class Report:
         if harmless:
             counts = ", ".join(f"{self.kinds[it.kind]} {it.kind}" for it in harmless)
             yield f"no damage, but not readable: {counts}; the first at {harmless[0]}"
-        documents = f"{self.documents - 1} documents and a rest of {self.rest} bytes" if self.rest else f"{self.documents} documents"
-        yield self.error or f"{documents}, {self.faulty} faulty"
+        for text, documents in self.repeats:
+            yield f"repeated {'_id that has a fault' if text is None else text}: {documents} documents"
+        if self.repeated and self.repeated > len(self.repeats):
+            yield f"and {self.repeated - len(self.repeats)} more ids"
+        yield self.error or f"{self.counted}, {self.faulty} faulty"
         if self.metadata:
             yield f"metadata: {self.metadata}"
 
@@ -100,7 +111,7 @@ class Report:
             detail = self.details.get(fault.document, Detail())
             number = None if detail.id is None else json.loads(detail.id)
             faults.append({**dict(zip(("document", "byte", "path", "kind"), fault)), **detail._asdict(), "id": number})
-        names = "name", "documents", "faulty", "kinds", "faults", "rest", "error", "metadata", "expected"
+        names = "name", "documents", "faulty", "kinds", "faults", "rest", "error", "metadata", "expected", "repeated"
         return {name: getattr(self, name) for name in names} | {"faults": faults}
 
 
@@ -137,10 +148,11 @@ class Noting:
 
 
 class Audit(NamedTuple):
-    """The reports of all files, and what the log of mongodump says that has no file, with how many documents."""
+    """The reports of all files, what the log of mongodump says that has no file, with how many documents, and its lines of failures."""
 
     reports: list[Report]
     missing: dict[str, int]
+    failures: list[str] = []
 
     @property
     def kinds(self) -> Counter[str]:
@@ -178,21 +190,27 @@ class Audit(NamedTuple):
         return [it for it in self.reports if it.metadata]
 
     @property
+    def with_repeats(self) -> list[Report]:
+        """The files in which several documents have one `_id`, if that was looked at."""
+        return [it for it in self.reports if it.repeated]
+
+    @property
     def is_good(self) -> bool:
         """Whether all files are there, whole and without faults."""
-        findings = self.kinds, self.unread, self.miscounted, self.untold, self.copies, self.without_metadata, self.missing
-        return not any(findings)
+        of_files = self.kinds, self.unread, self.copies, self.without_metadata, self.with_repeats
+        return not any((*of_files, self.miscounted, self.untold, self.missing, self.failures))
 
     def lines(self) -> Iterator[str]:
         """What is printed of the files beside the log."""
         for report in self.miscounted:
-            yield f"{report.name}: {report.documents} documents in place of {report.expected}"
+            yield f"{report.name}: {report.counted} in place of {report.expected}"
         for report in self.untold:
             yield f"{report.name}: not in the log"
         for report in self.copies:
             yield f"{report.name}: {report.copy}"
         for namespace, count in self.missing.items():
             yield f"{namespace}: missing, with {count} documents"
+        yield from self.failures
 
     def rows(self) -> list[tuple[str, int]]:
         """The table; the kinds of faults that are no damage come last."""
@@ -205,7 +223,9 @@ class Audit(NamedTuple):
             ("not in the log", self.untold),
             ("other copies", self.copies),
             ("without metadata", self.without_metadata),
+            ("with repeated ids", self.with_repeats),
             ("missing", self.missing),
+            ("failures in the log", self.failures),
         )
         return [
             ("files", len(self.reports)),
@@ -227,5 +247,6 @@ class Audit(NamedTuple):
                 "kinds": self.kinds,
                 **{name: [it.name for it in getattr(self, name)] for name in ("miscounted", "untold", "copies")},
                 "missing": self.missing,
+                "failures": self.failures,
             }
         )

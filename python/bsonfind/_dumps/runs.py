@@ -27,10 +27,12 @@ class Checking:
         self._program, self._group = program, group or Group()
         self.documents = self.bytes = 0
 
-    def faults(self, source: Source) -> Iterator[Fault]:
-        """The damage, in the order of the documents."""
+    def faults(self, source: Source, take: Callable[[bytes], None] | None = None) -> Iterator[Fault]:
+        """The damage, in the order of the documents, each of which is passed on, if that is asked for."""
         for part in source.inputs():
             pieces, file = part.dump
+            if take:
+                pieces, file = documents_taken(source.raw() if pieces is None else pieces, take), None
             with checking(Dump(pieces and self._counted(pieces), file), self._program, self._group) as run:
                 for fault in faults_of(run):
                     yield fault.moved(self.documents, part.offset)
