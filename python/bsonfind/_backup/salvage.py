@@ -1,28 +1,25 @@
-"""Takes what is good out of a damaged dump, or the dumps of a directory, each read once, in memory that does not grow with it."""
+"""Takes what is good out of a damaged dump, which is read once, in memory that does not grow with it."""
 
 from __future__ import annotations
 
 import os
 from collections import deque
-from contextlib import ExitStack, contextmanager, nullcontext
+from contextlib import ExitStack, nullcontext
 from typing import Callable, ContextManager, Generator, Iterator, NamedTuple, Union
 
 from .._arguments import File, name_of
-from .._dumps.outputs import NewOutput, Output, is_same, naming, refuse_names
+from .._dumps.outputs import Output, refuse_names
 from .._dumps.runs import all_faults, checking
 from .._dumps.sources import Source
-from .._errors import ArgumentError, BsonfindError, DumpError, FileError, why
+from .._errors import ArgumentError, DumpError
 from .._faults import Fault
 from .._run.processes import Dump, Group, Run, processors, wide_program
-from .backups import Dump as Found, dumps_below, metadata_below, stem_of_file
 from .beginnings import Beginnings, Window
 
 # The bytes that are checked by one run, at first and after damage, and at most; and the documents at most.
 _FIRST, _MOST, _MOST_DOCUMENTS = 1 << 16, 1 << 22, 100_000
 # This many runs check at once at most.
 _MOST_AHEAD = 4
-# The endings of the files that are written of a dump of a directory, and of those that are not whole yet; and of those of metadata.
-_GOOD, _BAD, _PART, _JSON = ".bson", ".bad", ".part", ".json"
 # What takes documents, some after the others.
 Take = Callable[[Union[bytes, memoryview]], object]
 
@@ -210,88 +207,3 @@ class _Batch(NamedTuple):
     ends: list[int]
     data: bytes
     run: Run
-
-
-class SalvagedDirectory(NamedTuple):
-    """What was salvaged of each dump, by its name, and what could not be."""
-
-    files: dict[str, Salvaged]
-    problems: list[str]
-
-    @property
-    def is_good(self) -> bool:
-        """Whether no dump has a fault."""
-        return all(it.is_good for it in self.files.values())
-
-
-def salvage_directory(
-    directory: str, out: str, program: str, say: Callable[[str], None], progress: Callable[[Source], ContextManager[object]]
-) -> SalvagedDirectory:
-    """Copies the good documents of each dump below a directory to the same name below another one, others to `.bad`, and all metadata."""
-    if not os.path.isdir(directory):
-        raise ArgumentError(f"{directory} is no directory: give --good and --bad for a dump")
-    if not out or is_same(directory, out) or os.path.realpath(out).startswith(os.path.realpath(directory) + os.sep):
-        raise ArgumentError("the directory of --out is another one, and not below that of the dumps")
-    wide_program(program)
-    done = SalvagedDirectory({}, [])
-    for dump in list(dumps_below(directory)):
-        with _noting(dump.name, done.problems):
-            if dump.error:
-                raise DumpError(dump.error)
-            name = os.path.join(out, os.path.relpath(stem_of_file(dump.name), directory))
-            done.files[dump.name] = _salvage_one(dump, name, program, say, progress)
-    for path, _, wrong in list(metadata_below(directory)):
-        if wrong:
-            done.problems.append(os.path.join(os.path.dirname(path), wrong))
-            continue
-        with _noting(path, done.problems):
-            _copy_metadata(path, os.path.join(out, os.path.relpath(path, directory)))
-    return done
-
-
-@contextmanager
-def _noting(name: str, problems: list[str]) -> Iterator[None]:
-    """Notes what goes wrong with a file meanwhile."""
-    try:
-        yield
-    except FileError as error:
-        problems.append(str(error))
-    except (BsonfindError, OSError) as error:
-        problems.append(f"{name}: {why(error)}")
-
-
-def _salvage_one(
-    dump: Found, name: str, program: str, say: Callable[[str], None], progress: Callable[[Source], ContextManager[object]]
-) -> Salvaged:
-    def say_of(text: str) -> None:
-        say(f"{dump.name}: {text}")
-
-    with ExitStack() as files:
-        source = files.enter_context(Source(dump.name))
-        files.enter_context(progress(source))
-        source.refuse_archive()
-        good, bad = (files.enter_context(_new_output(name, ending, source)) for ending in (_GOOD, _BAD))
-        done = Salvaging(source.pieces(), program).copy(good.write, bad.write, say_of)
-        for output in (good, bad) if done.bad else (good,):
-            output.complete()
-            output.put_in_place()
-        told = f", {done.bad} to {name}{_BAD}, {done.bytes_left_out} bytes left out" if not done.is_good else ""
-        say_of(f"{done.good} documents to {name}{_GOOD}{told}")
-    return done
-
-
-def _copy_metadata(path: str, name: str) -> None:
-    """Copies a file of metadata, unpacked."""
-    stem, ending, _ = name.rpartition(_JSON)
-    with Source(path) as source, _new_output(stem, ending, source, _PART) as output:
-        for piece in source.pieces():
-            output.write(piece)
-        output.complete()
-        output.put_in_place()
-
-
-def _new_output(stem: str, ending: str, source: Source, part: str | None = None) -> NewOutput:
-    """A new file with the rights of a source, in a directory that is made if it is not there; and its ending while it is not whole."""
-    with naming(os.path.dirname(stem)):
-        os.makedirs(os.path.dirname(stem), exist_ok=True)
-    return NewOutput(stem + ending, stem + (part or ending + _PART), source.mode)
