@@ -99,6 +99,7 @@ class Arguments(Room):
         packed = str(self.file(gzip.compress(PEOPLE.read_bytes()), "dump.bson.gz"))
         for words, option in (
             (("find", "--limit", "1", "--limit=2"), "--limit"), (("find", "--query", "{}", "--query", '{"a":1}'), "--query"), (("find", "--count", "--count"), "--count"),
+            (("find", "-q", "{}", "--query", "{}"), "-q"), (("dump", "-f", "a", "--fields=b"), "-f"),
             (("dump", "--jsonFormat", "relaxed", "--jsonFormat=canonical"), "--jsonFormat"), (("audit", "--quiet", "--quiet"), "--quiet"),
         ):  # fmt: skip
             for dump in (str(PEOPLE), packed):
@@ -110,7 +111,7 @@ class Arguments(Room):
 
     def test_outputs_of_a_salvage(self) -> None:
         for words in ((), ("--good", "a"), ("--good", "a", "--bad", "b", "--out", "c"), ("--bad", "b", "--out", "c")):
-            self.assertEqual(self.refused("salvage", str(PEOPLE), *words), "bsonkit: salvage takes --good and --bad for a dump, or --out for a directory")
+            self.assertEqual(self.refused("salvage", str(PEOPLE), *words), "bsonkit: salvage takes --good and --bad for a dump, or --out for a directory or an archive")
 
     def test_names(self) -> None:
         """One name for the script; the module is the same thing."""

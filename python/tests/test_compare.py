@@ -6,6 +6,7 @@ import os
 import random
 import struct
 import tracemalloc
+from pathlib import Path
 from typing import List, Tuple
 from unittest import mock
 
@@ -104,6 +105,45 @@ class Compares(Room):
         self.assertEqual(found[-7:], self.rows(one, two, (1120, 809), 809, 0, 311, 0, more=more))
         self.assertEqual(len(self.compared(one, one, status=0)), 6)
 
+    def test_archives(self) -> None:
+        """Two archives, and one with a directory, of which each has what the other lacks; packed by gzip too."""
+        people, shop = PEOPLE.read_bytes(), SHOP.read_bytes()
+        all_ = [("club", "people", people), ("shop", "orders", shop), ("club", "a/b", people[:39978]), ("club", "none", b"")]
+        part = [("club", "people", people[39978:]), ("shop", "orders", shop), ("club", "new", b"")]
+        one = str(self.file(archive(all_), "one.archive"))
+        two = str(self.file(gzip.compress(archive(part, 7)), "two.archive.gz"))
+        for directory, collections in (("one", all_), ("two", part)):
+            for database, name, data in collections:
+                self.file(data, f"{directory}/{database}/{name.replace('/', '%2F')}.bson")
+        # In the order of the bytes of their ids.
+        numbers = sorted(range(220), key=int32)
+        lines = ["club/a%2Fb.bson: removed with all of its 220 documents", "club/new.bson: added with all of its 0 documents"]
+        lines += ["club/none.bson: removed with all of its 0 documents"]
+        lines += [f'club/people.bson: removed {{"$numberInt":"{number}"}}' for number in numbers]
+        for first, second in ((one, two), (one, str(self.room / "two")), (str(self.room / "one"), two)):
+            found = self.compared(first, second, status=1)
+            self.assertEqual(found[:-7], lines)
+            self.assertEqual(found[-7:], self.rows(first, second, (1120, 680), 680, 0, 440, 0, more=(("dumps of one alone", 3),)))
+        for first, second in ((one, one), (one, str(self.room / "one")), (str(self.room / "two"), two)):
+            documents = 1120 if first == one else 680
+            self.assertEqual(self.compared(first, second, status=0), self.rows(first, second, (documents, documents), documents, 0, 0, 0))
+        found = self.compared(two, two, "--by", "address.city", status=0)
+        self.assertIn("without address.city: 56 and 56 documents, 0 removed, 0 added", "".join(it.partition(": ")[2] for it in found[:1]))
+
+    def test_archives_that_are_damaged(self) -> None:
+        """What is not whole is no part of the counts, and the others are compared."""
+        people, shop = PEOPLE.read_bytes(), SHOP.read_bytes()
+        whole = str(self.file(archive([("club", "people", people), ("shop", "orders", shop)]), "whole.archive"))
+        bad = str(self.file(archive([("club", "people", people + DAMAGED), ("shop", "orders", shop)]), "bad.archive"))
+        told = f'bsonkit: {bad}::club.people: document 500, byte 92733, path "d": bad boolean\n'
+        for first, second in ((whole, bad), (bad, whole)):
+            self.assertEqual(self.compared(first, second, status=2, told=told), self.rows(first, second, (400, 400), 400, 0, 0, 0))
+        cut = str(self.file(Path(whole).read_bytes()[:-5], "cut.archive"))
+        run = run_package("compare", whole, cut)
+        self.assertEqual(run.returncode, 2)
+        self.assertIn(f"bsonkit: {cut}::club.people: no end\n", run.stderr)
+        self.assertIn(f"bsonkit: {cut}: byte {os.path.getsize(cut)}: the archive ends inside a block\n", run.stderr)
+
     def test_doubles(self) -> None:
         """By their texts: 0.0, -0.0, 1.0 and, as decimal128 and int32, 1, 1.00 and 1 are six values."""
 
@@ -160,11 +200,8 @@ class Compares(Room):
         self.compared(missing, bad, status=2, told=f"bsonkit: {missing}: No such file or directory\n")
         self.compared(one, bad, status=2, told=f"bsonkit: {bad} is no directory, and {one} is one\n")
         whole = str(self.file(archive([("club", "people", PEOPLE.read_bytes())]), "all.archive"))
-        told = f"bsonkit: {whole} is an archive, and {one} is a directory: unpack the archive, and compare two directories\n"
-        for words in ((one, whole), (whole, one)):
-            self.compared(*words, status=2, told=told)
         told = f"bsonkit: {whole}: an archive: name one of its collections, {whole}::db.collection, or unpack it\n"
-        self.compared(whole, whole, status=2, told=told)
+        self.compared(whole, str(PEOPLE), status=2, told=told)
         told = f"bsonkit: {two}/lost: a link to nothing that can be seen\n{damage}"
         found = self.compared(one, two, status=2, told=told)
         self.assertEqual(len(found), 91 + 6)  # The others are compared nevertheless.

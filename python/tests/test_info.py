@@ -62,7 +62,7 @@ class Info(Room):
             'club	log	capped	1	16	16	_id_ {"_id":1}	{"capped":true,"size":4096}',
             "club	none	collection	0	0			",
             'club	old	view					{"viewOn":"people","pipeline":[]}',
-            'club	people	collection	2	32	16	_id_ {"_id":1}; mail_1_at_-1 {"mail":1,"at":-1}	',
+            'club	people	collection	2	32	16	_id_ {"_id":1}; mail_1_at_-1 {"mail":1,"at":-1} unique	',
             'club	w	timeseries	1	18	18		{"timeseries":{"timeField":"at","bucketMaxSpanSeconds":3600}}',
             'shop	a.files	collection	1	14	14	_id_ {"_id":1}	',
             'shop	a/b	collection	1	14	14	_id_ {"_id":1}	',
@@ -82,13 +82,35 @@ class Info(Room):
             {
                 "database": "club", "collection": "people", "kind": "collection", "documents": 2, "bytes": 32, "average": 16,
                 "indexes": [{"v": 2, "key": {"_id": 1}, "name": "_id_"}, {"v": 2, "key": {"mail": 1, "at": -1}, "name": "mail_1_at_-1", "unique": True}],
-                "options": {}, "file": f"{self.room}/dump/club/people.bson",
+                "options": {}, "metadata": {"uuid": "", "collectionName": "people", "type": "collection"},
+                "file": f"{self.room}/dump/club/people.bson",
             },
         )  # fmt: skip
         self.assertEqual((log["file"], log["options"]), (f"{self.room}/dump/club/log.bson.gz", {"capped": True, "size": 4096}))
         self.assertEqual((view["documents"], view["bytes"], view["average"]), (None, None, None))
         alone = json.loads(self.info(self.file(ONE, "alone.bson"), "--json")[0])
         self.assertEqual((alone["documents"], alone["indexes"], alone["options"]), (1, None, None))
+
+    def test_what_indexes_are(self) -> None:
+        """By the options of createIndexes, as the manual of MongoDB has them; an option that is false is none."""
+        for options, wanted in (
+            ({"unique": True, "sparse": True}, " unique sparse"),
+            ({"unique": False, "sparse": False, "hidden": True}, " hidden"),
+            ({"expireAfterSeconds": {"$numberInt": "3600"}}, " TTL 3600 s"),
+            ({"expireAfterSeconds": {"$numberInt": "0"}}, " TTL 0 s"),
+            ({"partialFilterExpression": {"age": {"$gt": {"$numberDouble": "5.0"}}}, "unique": True}, ' unique partial {"age":{"$gt":5}}'),
+        ):
+            self.file(ONE, "d/a.bson")
+            self.file(metadata("a", indexes=[ID, {"key": {"age": 1}, "name": "age_1", **options}]), "d/a.metadata.json")
+            self.assertEqual(self.info(self.room / "d"), [f'd\ta\tcollection\t1\t14\t14\t_id_ {{"_id":1}}; age_1 {{"age":1}}{wanted}\t'])
+
+    def test_all_that_metadata_says(self) -> None:
+        """As JSON, beside indexes and options: what is not known here too."""
+        self.file(ONE, "d/a.bson")
+        self.file(b'{"indexes":[],"uuid":"2f5c","type":"collection","new":{"a":[{"$numberLong":"7"}]}}', "d/a.metadata.json")
+        entry = json.loads(self.info(self.room / "d", "--json")[0])
+        self.assertEqual(entry["metadata"], {"uuid": "2f5c", "type": "collection", "new": {"a": [7]}})
+        self.assertIsNone(json.loads(self.info(self.file(ONE, "alone.bson"), "--json")[0])["metadata"])
 
     def test_numbers_of_options(self) -> None:
         for value, wanted in (

@@ -14,8 +14,8 @@ from bsonfind._backup.backups import Dump
 from bsonfind._backup.ids import find_ids, ids_of
 from bsonfind._backup.query import query_dumps
 
-from .bson import document, field, text
-from .support import COMMAND, DAMAGED, PEOPLE, PEOPLE_LINES, PROGRAM, SHOP, SHOP_LINES, Room, environment, packed, run_package
+from .bson import document, field, int32, text
+from .support import COMMAND, DAMAGED, PEOPLE, PEOPLE_LINES, PROGRAM, SHOP, SHOP_LINES, Room, environment, packed, run_of_bytes, run_package
 
 OLD = '{"age":{"$gte":90}}'
 OLD_LINES = [line.decode() for line in PEOPLE_LINES if int(json.loads(line)["age"]["$numberInt"]) >= 90]
@@ -42,6 +42,18 @@ class Queries(Room):
         self.assertEqual(self.query("--list", str(listed), "--query", OLD, status=0, told="98 documents in 2 of 4 files\n"), wanted)
         lines = [f"{SHOP}\t{line.decode()}" for line in SHOP_LINES]
         self.assertEqual(self.query(str(SHOP), status=0, told="400 documents in 1 of 1 files\n"), lines)
+
+    def test_limit(self) -> None:
+        """It is that of all files, and what was not looked for is said."""
+        names = [str(self.file(PEOPLE.read_bytes(), f"a/{it}.bson")) for it in range(3)]
+        end = "; no more were looked for, as --limit says\n"
+        for limit, files in ((1, 1), (49, 1), (60, 2), (98, 2)):
+            wanted = [f"{name}\t{line}" for name in names for line in OLD_LINES][:limit]
+            told = f"{limit} documents in {files} of 3 files{end}"
+            self.assertEqual(self.query(*names, "--query", OLD, "--limit", str(limit), status=0, told=told), wanted)
+        for words in (("--limit", "0"), ("--limit", "148"), ()):
+            self.assertEqual(len(self.query(*names, "-q", OLD, *words, status=0, told="147 documents in 3 of 3 files\n")), 147)
+        self.assertIn("argument --limit: a number from 0", run_package("query", *names, "--limit", "-1").stderr)
 
     def test_files_with_several_names(self) -> None:
         """Each name has the documents."""
@@ -226,8 +238,19 @@ class AsksForIds(Room):
                 self.assertEqual(find_ids(str(path), ids_of(ids, "ids", PROGRAM), PROGRAM, found.extend), ["7.5"])
             self.assertEqual([it.decode().strip() for it in found], lines)
 
+    def test_uuids(self) -> None:
+        """A line may be the text of one, in digits of either case; what it is is binary data of subtype 04, and not of the older one."""
+        digits = "c8edabc3f7384ca3b68dab92a91478a3"
+        uuid, old = (document(field(5, "_id", int32(16) + bytes([subtype]) + bytes.fromhex(digits))) for subtype in (4, 3))
+        path = self.file(old + uuid, "uuids.bson")
+        for text in ("c8edabc3-f738-4ca3-b68d-ab92a91478a3", "C8EDABC3-F738-4CA3-B68D-AB92A91478A3"):
+            ids = self.file(f"{text}\n00000000-0000-0000-0000-000000000000\n".encode(), "ids")
+            status, found, told = run_of_bytes("ids", str(path), "--ids", str(ids), "--bson")
+            self.assertEqual((status, found), (1, uuid))
+            self.assertEqual(told, "missing: 00000000-0000-0000-0000-000000000000\n1 of 2 ids found\n")
+
     def test_bad_input(self) -> None:
-        neither = "neither JSON nor 24 hexadecimal digits"
+        neither = "neither JSON, 24 hexadecimal digits nor a UUID"
         for line, problem in (("abc", neither), ('{"$numberInt":"3000000000"}', "number out of range"), ('{"$numberDouble":"1.5x"}', 'bad wrapper; write {"$numberDouble":".."}'), ('1,"a":2', neither), ("00", neither)):
             self.ids(["1", "", line], status=2, told=f"bsonkit: {self.room}/ids: line 3: {problem}\n")
         bad = self.file(PEOPLE.read_bytes() + DAMAGED, "bad.bson")

@@ -11,7 +11,6 @@ from hashlib import blake2b
 from typing import IO, Callable, Iterable, Iterator, NamedTuple, Sequence
 
 from .._dumps.elements import value_at
-from .._dumps.files import is_whole_archive
 from .._dumps.runs import each_document, texts_of_values
 from .._dumps.sources import Source
 from .._errors import BsonfindError, ProgramError, why
@@ -64,26 +63,26 @@ def pairs_of(first: str, second: str) -> tuple[list[Pair], list[CompareError]]:
     if not os.path.isdir(first) and not os.path.isdir(second):
         return [Pair(second, first, second)], []
     for name, other in ((first, second), (second, first)):
-        if is_whole_archive(name):
-            raise CompareError(f"{name} is an archive, and {other} is a directory: unpack the archive, and compare two directories")
         if not os.path.isdir(name):
             raise CompareError(f"{name} is no directory, and {other} is one")
-    found: list[dict[str, str]] = []
     problems: list[CompareError] = []
-    for directory in (first, second):
-        names: dict[str, str] = {}
-        for dump in dumps_below(directory):
-            name = os.path.relpath(dump.name, directory)
-            name = name[:-3] if name.endswith(".gz") else name
-            if dump.error:
-                problems.append(CompareError(f"{dump.name}: {dump.error}"))
-            elif name in names:
-                problems.append(CompareError(f"{dump.name}: {names[name]} is there too"))
-            else:
-                names[name] = dump.name
-        found.append(names)
-    a, b = found
+    a, b = (names_below(directory, problems) for directory in (first, second))
     return [Pair(name, a.get(name), b.get(name)) for name in sorted({*a, *b})], problems
+
+
+def names_below(directory: str, problems: list[CompareError]) -> dict[str, str]:
+    """The dumps below a directory by what both of a pair are named, and what cannot be found there."""
+    names: dict[str, str] = {}
+    for dump in dumps_below(directory):
+        name = os.path.relpath(dump.name, directory)
+        name = name[:-3] if name.endswith(".gz") else name
+        if dump.error:
+            problems.append(CompareError(f"{dump.name}: {dump.error}"))
+        elif name in names:
+            problems.append(CompareError(f"{dump.name}: {names[name]} is there too"))
+        else:
+            names[name] = dump.name
+    return names
 
 
 def compare(pair: Pair, path: str, program: str, say: Callable[[str], None]) -> Comparison:
@@ -97,22 +96,35 @@ def compare(pair: Pair, path: str, program: str, say: Callable[[str], None]) -> 
     documents = [0, 0]
     with Sorter() as sorter:
         for side, name in enumerate((pair.first, pair.second)):
-            mark = b"\t%d\n" % side
 
-            def take(document: bytes, mark: bytes = mark) -> None:
-                # The key comes first, in digits, so that lines are sorted by it. Documents without a key come before all others.
-                key = (value_at(document, names) or b"").hex().encode()
-                sorter.add(b"%s\t%s%s" % (key, blake2b(document, digest_size=16).hexdigest().encode(), mark))
+            def take(document: bytes, side: int = side) -> None:
+                sorter.add(line_of(document, names, side))
 
-            documents[side] = _each_document(name, program, take)
-        counts: Counter[str] = Counter()
-        for lines in batches(_differences(sorter.all(), path, counts), lambda line: len(line[1])):
-            values = [bytes.fromhex(key.decode()) for _, key, _ in lines if key]
-            texts = iter(texts_of_values(values, program))
-            for before, key, after in lines:
-                say(f"{before}{next(texts) if key else ''}{after}")
+            documents[side] = each_of(name, program, take)
+        return compared(sorter.all(), (documents[0], documents[1]), path, program, say)
+
+
+def line_of(document: bytes, names: Sequence[bytes], side: int) -> bytes:
+    """What is sorted of a document of one of two dumps: the key that names lead to, a digest, and which dump it is.
+
+    The key comes first, in digits, so that lines are sorted by it. Documents without a key come before all others.
+    """
+    key = (value_at(document, names) or b"").hex().encode()
+    return b"%s\t%s\t%d\n" % (key, blake2b(document, digest_size=16).hexdigest().encode(), side)
+
+
+def compared(
+    lines: Iterator[bytes], documents: tuple[int, int], path: str, program: str, say: Callable[[str], None]
+) -> Comparison:
+    """The counts of the sorted lines of two dumps, which have this many documents; `say` gets what differs."""
+    counts: Counter[str] = Counter()
+    for some in batches(_differences(lines, path, counts), lambda line: len(line[1])):
+        values = [bytes.fromhex(key.decode()) for _, key, _ in some if key]
+        texts = iter(texts_of_values(values, program))
+        for before, key, after in some:
+            say(f"{before}{next(texts) if key else ''}{after}")
     repeated, without = counts.pop("repeated", 0), counts.pop("without", 0)
-    return Comparison((documents[0], documents[1]), counts, repeated, without)
+    return Comparison(documents, counts, repeated, without)
 
 
 def _differences(lines: Iterator[bytes], path: str, counts: Counter[str]) -> Iterator[tuple[str, bytes, str]]:
@@ -162,14 +174,19 @@ def _by_key(lines: Iterator[bytes]) -> Iterator[tuple[bytes, int, int, int]]:
 
 def _one_alone(pair: Pair, program: str, say: Callable[[str], None]) -> Comparison:
     """The counts of a dump that only one of two directories has."""
-    name, kind = (pair.first, "removed") if pair.second is None else (pair.second, "added")
+    name = pair.first if pair.second is None else pair.second
     assert name is not None
-    count = _each_document(name, program, lambda _: None)
+    return alone(each_of(name, program, lambda _: None), pair.second is None, say)
+
+
+def alone(count: int, is_removed: bool, say: Callable[[str], None]) -> Comparison:
+    """The counts of a dump with this many documents that only the first of two backups has, or only the second."""
+    kind = "removed" if is_removed else "added"
     say(f"{kind} with all of its {count} documents")
-    return Comparison((count, 0) if kind == "removed" else (0, count), Counter({kind: count}), alone=1)
+    return Comparison((count, 0) if is_removed else (0, count), Counter({kind: count}), alone=1)
 
 
-def _each_document(name: str, program: str, take: Callable[[bytes], None]) -> int:
+def each_of(name: str, program: str, take: Callable[[bytes], None]) -> int:
     """Has the documents of a dump checked as they pass on, and gives their number. What is wrong is raised with its name."""
     try:
         with Source(name) as source:

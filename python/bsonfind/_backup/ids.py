@@ -20,6 +20,7 @@ from .._run.processes import Group, wide_program
 # How many documents, or bytes of documents, are printed at once.
 _MOST_DOCUMENTS, _MOST_BYTES = 1000, 1 << 22
 _OID = re.compile(r"[0-9a-fA-F]{24}")
+_UUID = re.compile(r"[0-9a-fA-F]{8}-(?:[0-9a-fA-F]{4}-){3}[0-9a-fA-F]{12}")
 _REFUSED = re.compile(r"line (\d+)(?:, byte \d+)?: (.+)")
 
 
@@ -28,16 +29,20 @@ class IdError(BsonfindError):
 
 
 def ids_of(lines: list[str], name: str, program: str) -> dict[object, str]:
-    """The lines of a file of ids, each once, by what ids are compared by: 24 hexadecimal digits a line, or an id as `dump` prints it."""
+    """The lines of a file of ids, each once, by what ids are compared by.
+
+    A line is 24 hexadecimal digits, a UUID, which is binary data of subtype 04, or an id as `dump` prints it.
+    """
     texts: list[tuple[int, str, str]] = []
     for number, line in enumerate(lines, 1):
         text = line.strip()
         if text:
-            text = f'{{"$oid":"{text}"}}' if _OID.fullmatch(text) else text
+            name_of_kind = "$oid" if _OID.fullmatch(text) else "$uuid" if _UUID.fullmatch(text) else None
+            text = f'{{"{name_of_kind}":"{text}"}}' if name_of_kind else text
             try:
                 json.loads(text, parse_int=str)
             except (ValueError, RecursionError):
-                raise IdError(f"{name}: line {number}: neither JSON nor 24 hexadecimal digits") from None
+                raise IdError(f"{name}: line {number}: neither JSON, 24 hexadecimal digits nor a UUID") from None
             texts.append((number, line, text))
     ids: dict[object, str] = {}
     for (_, line, _), key in zip(texts, _packed(texts, name, program)):

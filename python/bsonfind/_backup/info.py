@@ -37,6 +37,8 @@ class Entry(NamedTuple):
     bytes: int | None
     indexes: list[Any] | None
     options: dict[str, Any] | None
+    # What else the metadata says, such as the UUID of the collection.
+    metadata: dict[str, Any] | None
 
     @property
     def average(self) -> int | None:
@@ -44,12 +46,12 @@ class Entry(NamedTuple):
         return (2 * (self.bytes or 0) + self.documents) // (2 * self.documents) if self.documents else None
 
     def as_json(self) -> str:
-        return json.dumps({name: getattr(self, name) for name in (*COLUMNS, "file")})
+        return json.dumps({name: getattr(self, name) for name in (*COLUMNS, "metadata", "file")})
 
     def cells(self) -> list[str]:
         """The columns of a table; what is not known is empty."""
         numbers = ["" if it is None else str(it) for it in (self.documents, self.bytes, self.average)]
-        indexes = "; ".join(f"{it.get('name')} {_text(it.get('key'))}" for it in self.indexes or () if isinstance(it, dict))
+        indexes = "; ".join(" ".join(_words_of(it)) for it in self.indexes or () if isinstance(it, dict))
         return [self.database, self.collection, self.kind, *numbers, indexes, _text(self.options) if self.options else ""]
 
 
@@ -124,10 +126,12 @@ def _entry(file: str, namespace: Namespace, metadata: dict[str, Any] | None, rep
     documents = size = None
     if report and report.namespace and (report.whole or report.is_fault or not report.error):
         documents, size = report.whole, report.bytes
-    indexes, options = (None, None) if metadata is None else (_plain(metadata.get("indexes")), _plain(metadata.get("options")))
+    indexes = options = others = None
     if metadata is not None:
+        others = _plain(metadata)
+        indexes, options = others.pop("indexes", None), others.pop("options", None)
         indexes, options = indexes if isinstance(indexes, list) else [], options if isinstance(options, dict) else {}
-    return Entry(file, namespace.database, namespace.collection, kind, documents, size, indexes, options)
+    return Entry(file, namespace.database, namespace.collection, kind, documents, size, indexes, options, others)
 
 
 def _ordered(entries: list[Entry], names: Sequence[str]) -> list[Entry]:
@@ -157,6 +161,16 @@ def _number(value: dict[str, Any]) -> Any:
     if not isinstance(number, float):
         return number
     return value if not isfinite(number) else int(number) if number.is_integer() and abs(number) < _EXACT else number
+
+
+def _words_of(index: dict[str, Any]) -> Iterator[str]:
+    """The name and the key of an index, and what else it is by the options of `createIndexes`."""
+    yield f"{index.get('name')} {_text(index.get('key'))}"
+    yield from (name for name in ("unique", "sparse", "hidden") if index.get(name))
+    if "partialFilterExpression" in index:
+        yield f"partial {_text(index['partialFilterExpression'])}"
+    if "expireAfterSeconds" in index:
+        yield f"TTL {_text(index['expireAfterSeconds'])} s"
 
 
 def _text(value: Any) -> str:

@@ -3,7 +3,7 @@
 from __future__ import annotations
 
 from contextlib import contextmanager
-from typing import Iterator, NamedTuple, Sequence
+from typing import Generator, Iterator, NamedTuple, Sequence
 
 from .._ask.lines import Lines, try_request
 from .._ask.requests import Request
@@ -25,7 +25,7 @@ class Found(NamedTuple):
     error: Exception | None = None
 
 
-def query_dumps(dumps: Sequence[Dump], request: Request, jobs: int, program: str) -> Iterator[Found]:
+def query_dumps(dumps: Sequence[Dump], request: Request, jobs: int, program: str) -> Generator[Found, None, None]:
     """The documents of dumps that match, in the order of the dumps; this many are asked at once. A refused request is raised."""
     try_request(request, program)
     group = Group()

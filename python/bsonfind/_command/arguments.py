@@ -52,18 +52,28 @@ class _Parser(argparse.ArgumentParser):
     def parse_known_args(self, args: Any = None, namespace: Any = None) -> Any:
         """Takes names of files after options too, which else are not known, and each option once, as the program does."""
         words = args[: args.index("--")] if "--" in args else args
-        given = [it.partition("=")[0] for it in words if it.startswith("--")]
-        for name in given:
-            if name in self._option_string_actions and name not in _REPEATED and given.count(name) > 1:
+        names = [name for it in words if (name := it.partition("=")[0]) in self._option_string_actions and name not in _REPEATED]
+        given = [self._option_string_actions[name] for name in names]
+        for name, action in zip(names, given):
+            if given.count(action) > 1:
                 self.error(f"argument {name}: it is given twice")
         known, others = super().parse_known_args(args, namespace)
         if hasattr(known, "files"):
-            known.files = [*known.files, *(it for it in others if it == "-" or not it.startswith("-"))]
-            others = [it for it in others if it != "-" and it.startswith("-")]
+            known.files = [*known.files, *filter(_is_name, others)]
+            others = [it for it in others if not _is_name(it)]
         return known, others
+
+    def _parse_optional(self, word: str) -> Any:
+        """Takes a collection of an archive on standard input for a name, and for no option."""
+        return None if _is_name(word) else super()._parse_optional(word)
 
     def print_help(self, file: object = None) -> None:
         print_text(self.format_help(), end="")
+
+
+def _is_name(word: str) -> bool:
+    """Whether it is the name of a file, standard input or a collection of an archive there, and no option."""
+    return word == "-" or word.startswith("-::") or not word.startswith("-")
 
 
 def parser(name: str, words: Sequence[str] | None = None) -> argparse.ArgumentParser:
@@ -148,13 +158,23 @@ _OF_CHECKS = "0 if all is good, 1 if something is faulty, cut or missing, 2 if a
 _DUMPS = _argument("files", "FILE", "a dump of any size, one by mongodump --gzip, or - for standard input", nargs="+")
 _LIST = _argument("--list", "F", "also the files whose names are the lines of F")
 _FILES = _argument("files", "FILE", "a dump, one by mongodump --gzip, or a directory of such files", nargs="*"), _LIST
+# A query, or the file that it is in, as mongoexport has them.
+_QUERY_FILE = _argument("--queryFile", "F", "the file that the query is in, or - for standard input")
+
+
+def _query(help: str) -> list[Argument]:
+    return [(("-q", "--query"), {"metavar": "Q", "help": help, "type": _text}), _QUERY_FILE]
+
+
+# Where documents go, as bsondump has it, and mongoexport by the short name.
+_OUT_FILE = ("-o", "--outFile"), {"metavar": "NEW", "dest": "outFile", "help": "write to this file, which gets its name once it is whole"}
 _ROWS = _flag("print a line of JSON for each row", "--json")
 _AS_BSON = _flag("print the documents as they are, in BSON", "--bson")
 # How `dump` and `find` print documents.
 _LAYOUT = tuple(((name,), {"choices": CHOICES[name], "help": help}) for name, help in (
     ("--type", "csv: a header, and a row of these --fields for each document"), ("--jsonFormat", "relaxed: numbers and dates as mongoexport"),
 )) + (
-    _of_text("--fields", "A,B.C", "print these fields alone, and _id"),
+    (("-f", "--fields"), {"metavar": "A,B.C", "help": "print these fields alone, and _id", "type": _text}),
     _flag("leave _id out", "--noId"),
     _flag("print one array of JSON", "--jsonArray"),
     _flag("print each document on many lines", "--pretty"),
@@ -163,13 +183,14 @@ _LAYOUT = tuple(((name,), {"choices": CHOICES[name], "help": help}) for name, he
 _USAGES = {"grep": "%(prog)s [options] TEXT FILE.. | --regex R FILE.."}
 _COMMANDS: Sequence[tuple[str, str, str, Sequence[Argument | list[Argument]]]] = (
     ("check", "Prints each fault of dumps; doubles and decimal128 are none.", _AS_THE_PROGRAM.format("good"), [_DUMPS]),
-    ("dump", "Prints the documents of dumps, as lines, an array or CSV.", _PRINTED, [_DUMPS, *_LAYOUT]),
+    ("dump", "Prints the documents of dumps, as lines, an array or CSV.", _PRINTED, [_DUMPS, *_LAYOUT, _OUT_FILE]),
     ("pack", "Writes the dump of lines of Extended JSON.", _PRINTED.replace("printed", "packed"), [
         _argument("file", "FILE", "a text with a document on each line, as dump prints it, or - for standard input"),
+        _OUT_FILE,
     ]),
     ("find", "Prints the documents of a dump that match a query, sorted.", _PRINTED, [
         _argument("file", "FILE", "a dump, one by mongodump --gzip, or - for standard input"),
-        _of_text("--query", "Q", "a query, as bsonwide find takes it", default="{}"),
+        _query("a query, as bsonwide find takes it"),
         _of_text("--sort", "S", "the fields by which documents are sorted", default="{}"),
         _of_text("--index", "PATH", "find documents by an index on this path"),
         _of_text("--after", "TOKEN", "resume after the documents that were printed with this token"),
@@ -177,6 +198,7 @@ _COMMANDS: Sequence[tuple[str, str, str, Sequence[Argument | list[Argument]]]] =
         _of_number("--limit", "print this many at most", 0, 0),
         _of_number("--batch", "print the next page of this many", 0),
         *_LAYOUT,
+        _OUT_FILE,
         [_AS_BSON, _flag("print how many documents there are, and none of them", "--count")],
     ]),
     ("serve", "Replies to commands about a dump, one a line of standard input.",
@@ -186,7 +208,8 @@ _COMMANDS: Sequence[tuple[str, str, str, Sequence[Argument | list[Argument]]]] =
     ]),
     ("audit", "Checks many files, on all processors.", f"The status is {_OF_CHECKS}", [
         *_FILES,
-        _argument("--expect", "LOG", "compare the counts with those in a log of mongodump"),
+        _argument("--expect", "LOG", "compare the counts with those in a log of mongodump, and report its failures"),
+        _flag("report each _id that several documents of a dump have", "--ids"),
         [
             _flag("print one line of JSON, and nothing else", "--json"),
             _flag("print nothing if all is good, and else nothing of good files", "--quiet"),
@@ -196,10 +219,16 @@ _COMMANDS: Sequence[tuple[str, str, str, Sequence[Argument | list[Argument]]]] =
     ]),
     ("salvage", "Copies each document of a damaged dump to one of two files.",
      "The status is 0 if all is good, 1 if something is faulty or left out, else 2. Keep FILE: G and B lack what is left out.", [
-        _argument("file", "FILE", "a damaged dump, one by mongodump --gzip, or a directory of dumps"),
+        _argument("file", "FILE", "a damaged dump, one by mongodump --gzip, a directory of dumps, or an archive"),
         _argument("--good", "G", "the file for documents without a fault"),
         _argument("--bad", "B", "the file for other documents whose length is known"),
-        _argument("--out", "DIR", "of a directory: where the good documents of each dump go, by the same names"),
+        _argument("--out", "DIR", "of a directory or an archive: where the good documents of each dump go, by the same names"),
+    ]),
+    ("show", "Prints a document element by element, also a damaged one as far as lengths lead.",
+     "The status is 0 if the document has no fault, 1 if it has one, and 2 if it was not found or not read.", [
+        _argument("file", "FILE", "a dump, such as one by salvage with the ending .bad, or one by mongodump --gzip"),
+        _argument("number", "N", "the number of the document, from 0 on, as faults have it", type=_number(0)),
+        _flag("print the document of the elements that are sound, in BSON", "--bson"),
     ]),
     ("unpack", "Writes the collections of an archive of mongodump to files.",
      "The status is 0 if all is whole, 1 if a collection is not, whose file ends in .part, and else 2.", [
@@ -208,21 +237,23 @@ _COMMANDS: Sequence[tuple[str, str, str, Sequence[Argument | list[Argument]]]] =
         _of_text("--only", "DB.COLLECTION", "write this collection alone; may be repeated", action="append"),
         _flag("do not compare the CRC-64 of each collection", "--no-crc"),
     ]),
-    ("compare", "Compares two dumps, or the dumps of two directories.",
+    ("compare", "Compares two dumps, or the dumps of two directories or archives.",
      "The status is 0 if both have the same documents, in any order, 1 if they differ, and else 2.", [
-        _argument("first", "A", "a dump, one by mongodump --gzip, or a directory of such files"),
+        _argument("first", "A", "a dump, one by mongodump --gzip, a directory of such files, or an archive"),
         _argument("second", "B", "what it is compared with"),
         _of_text("--by", "PATH", "the field by which documents belong together, not _id", default="_id"),
     ]),
     ("query", "Prints the documents of many files that match a query, each with its file.",
      "The status is 0 if all files were asked, 1 if one has a fault, and 2 if one was not read.", [
         *_FILES,
-        _of_text("--query", "Q", "a query as bsonfind find takes it", default="{}"),
+        _query("a query, as bsonwide find takes it"),
+        _of_number("--limit", "print this many at most, of all files", 0, 0),
+        _OUT_FILE,
         _of_number("--jobs", "ask this many files at once"),
     ]),
     ("count", "Counts documents, of each value of a field too, and adds numbers.", _OF_READING, [
         _DUMPS,
-        _of_text("--query", "Q", "count the documents that match this query"),
+        _query("count the documents that match this query"),
         _of_text("--by", "PATH", "count the documents of each value of this field"),
         _of_text("--sum", "PATH", "also add the numbers of this field, exactly"),
         _ROWS,
@@ -249,7 +280,7 @@ _COMMANDS: Sequence[tuple[str, str, str, Sequence[Argument | list[Argument]]]] =
     ("ids", "Prints the documents of a file of ids, and reports ids without a document.",
      "The status is 0 if each id has a document, 1 if one has none, and else 2.", [
         _argument("file", "FILE", "a dump of any size, or one by mongodump --gzip"),
-        _argument("--ids", "F", "a file of ids: 24 digits a line, or as dump prints them", required=True),
+        _argument("--ids", "F", "a file of ids, one a line: 24 digits, a UUID, or as dump prints them", required=True),
         _argument("--missing", "M", "write the ids without a document to this file"),
         _AS_BSON,
     ]),

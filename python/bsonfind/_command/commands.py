@@ -8,9 +8,9 @@ import stat
 from collections.abc import Callable, Sequence
 from contextlib import suppress
 
-from .._errors import DumpError, is_finding, why
+from .._errors import DumpError
 from .arguments import FAILED, FAULTY, GOOD, Refused, options_of
-from .console import Console, Progress, visible
+from .console import Console, Progress, table
 
 # The commands with the statuses of the program, in which 1 is all that failed.
 AS_THE_PROGRAM = ("check", "dump", "pack", "find", "serve")
@@ -24,6 +24,7 @@ _INSTEAD = {
     "salvage": "--out salvages all dumps below one",
     "unpack": "name an archive in it",
     "ids": "grep finds an id in all dumps below one",
+    "show": "name a dump in it",
 }
 
 
@@ -32,7 +33,22 @@ def run(words: argparse.Namespace) -> int:
     if name is not None and getattr(words, "out", None) is None:
         _refuse_directory(words.command, name)
     command: Callable[[argparse.Namespace], int] = globals()[f"_run_{words.command}"]
-    return command(words)
+    if getattr(words, "outFile", None) is None:
+        return command(words)
+    from .files import run_into
+
+    return run_into(words.outFile, getattr(words, "files", [name]), lambda: command(words))
+
+
+def _query_of(words: argparse.Namespace) -> str | None:
+    """The query of a command, by an option or in a file; None without one."""
+    if words.queryFile is None:
+        query: str | None = words.query
+        return query
+    from .files import query_in
+
+    _refuse_twice([*getattr(words, "files", [getattr(words, "file", "")]), words.queryFile])
+    return query_in(words.queryFile)
 
 
 def _refuse_directory(command: str, name: str, front: str = "") -> None:
@@ -61,15 +77,19 @@ def _run_dump(words: argparse.Namespace) -> int:
 
 
 def _run_pack(words: argparse.Namespace) -> int:
-    """Becomes the program, whose standard input is the text; only an error comes back."""
+    """Becomes the program, whose standard input is the text; only an error comes back. What goes to a file is written by a child."""
     from .._run.processes import wide_program
     from .program import PACK, execute, take_text
 
     wide = wide_program(words.program)
     if not take_text(words.file):
         raise DumpError(f"cannot open {words.file}")
-    execute(wide, [PACK, "-"])
-    return FAULTY
+    if words.outFile is None:
+        execute(wide, [PACK, "-"])
+        return FAULTY
+    from .dumping import pack_input
+
+    return GOOD if pack_input(wide) else FAULTY
 
 
 def _run_each(words: argparse.Namespace, console: Console, run_one: Callable[[str, Console, str], bool]) -> int:
@@ -90,24 +110,26 @@ def _run_each(words: argparse.Namespace, console: Console, run_one: Callable[[st
 
 def _refuse_twice(names: Sequence[str]) -> None:
     """Refuses standard input, and a pipe by any of its names, that is named twice: the second time there is nothing left of it."""
-    from .._dumps.files import file_of
+    from .._dumps.files import STDIN, file_of
 
     found: set[object] = set()
     for name in names:
         with suppress(OSError):  # Whoever reads it says what is wrong with it.
-            status = os.fstat(0) if name == "-" else os.stat(file_of(name))
+            file = file_of(name)
+            status = os.fstat(0) if file == STDIN else os.stat(file)
             pipe = stat.S_ISFIFO(status.st_mode) and (status.st_dev, status.st_ino)
-            if not (pipe or name == "-"):
+            if not (pipe or file == STDIN):
                 continue
             if pipe in found:
-                raise Refused(f"{'standard input' if name == '-' else name} is named twice")
+                raise Refused(f"{'standard input' if file == STDIN else name} is named twice")
             found.add(pipe)
 
 
 def _run_find(words: argparse.Namespace) -> int:
     from .finding import Finding
 
-    return GOOD if Finding(words, options_of(words)).print(Console()) else FAULTY
+    options = options_of(words)
+    return GOOD if Finding(words, _query_of(words), options).print(Console()) else FAULTY
 
 
 def _run_serve(words: argparse.Namespace) -> int:
@@ -149,7 +171,7 @@ def _run_audit(words: argparse.Namespace) -> int:
         return Progress(None if words.json else console, files, size)
 
     dumps = dumps_of(_names_in(words))
-    done = audit_dumps(dumps, words.expect, words.jobs, words.max_faults, words.program, show_good, watch)
+    done = audit_dumps(dumps, words.expect, words.jobs, words.max_faults, words.program, show_good, watch, with_ids=words.ids)
     if words.json:
         console.line(done.as_json())
     elif not (words.quiet and done.is_good):
@@ -158,6 +180,8 @@ def _run_audit(words: argparse.Namespace) -> int:
                 show(report)
         for line in [*done.lines(), *table(done.rows())]:
             console.line(line)
+        if not (words.ids or words.quiet):
+            console.line("ids were not compared: --ids reports those that several documents have")
     return FAILED if done.unseen else GOOD if done.is_good else FAULTY
 
 
@@ -176,20 +200,16 @@ def _names_in(words: argparse.Namespace) -> list[str]:
     return names
 
 
-def table(rows: Sequence[tuple[str, int]]) -> list[str]:
-    wide = max(len(name) for name, _ in rows)
-    return [f"{name:{wide}} {count:12}" for name, count in rows]
-
-
 def _run_salvage(words: argparse.Namespace) -> int:
-    from .._backup.salvage import salvage, salvage_directory
+    from .._backup.salvage import salvage
+    from .._backup.salvage_backup import salvage_backup
 
     console, name = Console(), words.file
     if (words.out is None) == (words.good is None and words.bad is None) or (words.good is None) != (words.bad is None):
-        raise Refused("salvage takes --good and --bad for a dump, or --out for a directory")
+        raise Refused("salvage takes --good and --bad for a dump, or --out for a directory or an archive")
     with Progress(console) as progress:
         if words.out is not None:
-            done = salvage_directory(name, words.out, words.program, console.line, progress.over)
+            done = salvage_backup(name, words.out, words.program, console.line, progress.over)
             for problem in done.problems:
                 console.problem(problem)
             return FAILED if done.problems else GOOD if done.is_good else FAULTY
@@ -223,52 +243,20 @@ def _run_unpack(words: argparse.Namespace) -> int:
 
 
 def _run_compare(words: argparse.Namespace) -> int:
-    from .._backup.compare import NOTHING, CompareError, compare, pairs_of, rows
-    from .._run.processes import wide_program
+    from .comparing import print_comparison
 
-    console = Console()
     _refuse_twice([words.first, words.second])
-    wide_program(words.program)
-    pairs, problems = pairs_of(words.first, words.second)
-    is_of_directories, total, compared = os.path.isdir(words.first), NOTHING, 0
-    for pair in pairs:
-        front = f"{pair.name}: " if is_of_directories else ""
-        try:
-            total += compare(pair, words.by, words.program, lambda text: console.line(f"{front}{text}"))
-            compared += 1
-        except CompareError as error:
-            problems.append(error)
-    # Zeros of dumps that were not compared would say that they are the same.
-    if compared or not problems:
-        for line in table(rows(total, (words.first, words.second), words.by)):
-            console.note(line)
-    for problem in problems:
-        console.problem(str(problem))
-    return FAILED if problems else GOOD if total.is_same else FAULTY
+    return print_comparison(words)
 
 
 def _run_query(words: argparse.Namespace) -> int:
     from .._ask.requests import Request
-    from .._backup.backups import dumps_of
-    from .._backup.query import query_dumps
-    from .._run.processes import processors
+    from .querying import print_query
 
-    console, named = Console(), _names_in(words)
-    _refuse_twice(named)
-    dumps = dumps_of(named)
-    documents, failed, status, names = 0, 0, GOOD, set()
-    for name, lines, error in query_dumps(dumps, Request(words.query), words.jobs or processors(), words.program):
-        if lines:
-            front = os.fsencode(visible(name)) + b"\t"
-            console.documents([front + line + b"\n" for line in lines])
-            documents += len(lines)
-            names.add(name)
-        if error:
-            console.problem(f"{name}: {why(error)}")
-            failed += 1
-            status = max(status, FAULTY if is_finding(error) else FAILED)
-    console.note(f"{documents} documents in {len(names)} of {len(dumps)} files" + (f", {failed} not asked in full" if failed else ""))
-    return status
+    words.files = _names_in(words)
+    _refuse_twice(words.files)
+    query = _query_of(words)
+    return print_query(words, Request("{}" if query is None else query, limit=words.limit))
 
 
 def _run_count(words: argparse.Namespace) -> int:
@@ -277,7 +265,7 @@ def _run_count(words: argparse.Namespace) -> int:
 
     _refuse_twice(words.files)
     by, add = (None if it is None else Path(it) for it in (words.by, words.sum))
-    return Counting(words.files, words.program, words.json).count(by, add, words.query)
+    return Counting(words.files, words.program, words.json).count(by, add, _query_of(words))
 
 
 def _run_schema(words: argparse.Namespace) -> int:
@@ -302,6 +290,12 @@ def _run_grep(words: argparse.Namespace) -> int:
     names = _names_in(words)
     _refuse_twice(names)
     return print_grep(words, text, names)
+
+
+def _run_show(words: argparse.Namespace) -> int:
+    from .showing import print_document
+
+    return print_document(words)
 
 
 def _run_ids(words: argparse.Namespace) -> int:

@@ -111,6 +111,12 @@ class Table:
             self._console.documents(lines)
 
 
+def table(rows: Sequence[tuple[str, int]]) -> list[str]:
+    """The lines of names, each with its count."""
+    wide = max(len(name) for name, _ in rows)
+    return [f"{name:{wide}} {count:12}" for name, count in rows]
+
+
 def row_of(cells: Sequence[str]) -> bytes:
     """A line of cells. Names of files are as they are on the disk; what is no UTF-8 and no name of a file is escaped."""
     text = "\t".join(map(visible, cells)) + "\n"

@@ -1,4 +1,4 @@
-"""The commands `check` and `dump` over any dumps: what runs of the program print is one output, as of one run over all of them."""
+"""The commands `check` and `dump` over any dumps: what runs of the program print is one output, as of one run over all. And `pack`."""
 
 from __future__ import annotations
 
@@ -84,3 +84,14 @@ def check_file(name: str, program: str, console: Console, front: str = "") -> bo
             is_sound = False
     console.note(f"{front}{checking.documents} documents, {faulty} faulty")
     return is_sound and not faulty
+
+
+def pack_input(wide: str) -> bool:
+    """Has a run pack the text of standard input to standard output, and passes on what it says; gives whether all is packed."""
+    with Run([wide, "pack", "-"], stdin=0, stdout=1) as run:
+        status = run.wait()
+        if status < 0:
+            raise run.error()
+        if sys.stderr:
+            print(run.messages(), end="", file=sys.stderr, flush=True)
+    return not status

@@ -22,9 +22,9 @@ from .console import Console
 class Finding:
     """What is requested of a dump on a command line, by a program. The form is its options that say what is printed, none for lines."""
 
-    def __init__(self, words: argparse.Namespace, form: Sequence[str] = ()) -> None:
+    def __init__(self, words: argparse.Namespace, query: str | None, form: Sequence[str] = ()) -> None:
         self.name, self.program, self.form = words.file, words.program, form
-        self.request = Request(words.query, words.sort, words.skip, words.limit)
+        self.request = Request("{}" if query is None else query, words.sort, words.skip, words.limit)
         self.batch, self.index, self.after = words.batch, words.index, words.after
 
     def print(self, console: Console) -> bool:

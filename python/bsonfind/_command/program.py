@@ -13,8 +13,9 @@ from .._run.program import located_wide, says
 _IGNORED, _NOTED = (signal.SIGPIPE, signal.SIGXFSZ), "BSONKIT_IGNORED"
 # What a run of the program reads at most, and the greatest number that an option takes.
 _LARGEST, MOST = 4_294_967_295, 2_147_483_647
-# The first bytes of what is no plain dump: an archive, or a file of gzip, which may hold one.
-_OTHERS = (b"\x6d\xe2\x99\x81", b"\x1f\x8b")
+# The first bytes of what is no plain dump: an archive, or a file of gzip, which may hold one; how many bytes say what else a file is;
+# and the most bytes of a document.
+_OTHERS, _HEAD, _LONGEST = (b"\x6d\xe2\x99\x81", b"\x1f\x8b"), 512, 16_793_600
 # The commands of one plain dump that are those of the program, the one of a text, and the one that reads commands from standard input.
 _OF_DUMPS, PACK, SERVE = ("check", "dump", "find"), "pack", "serve"
 # The option of `serve`.
@@ -22,8 +23,9 @@ BY_VALUE = "--byValue"
 # The options of `dump` and `find` that say how documents are printed, as those of `mongoexport`: with one of some words, and all.
 CHOICES = {"--type": ("json", "csv"), "--jsonFormat": ("canonical", "relaxed")}
 LAYOUT = (*CHOICES, "--fields", "--noId", "--jsonArray", "--pretty", "--noHeaderLine")
-# The options of these with a text or a number, or with nothing, and those of each command.
-_TEXTS, _NUMBERS = ("--query", "--sort", "--index", "--after", "--fields"), ("--skip", "--limit", "--batch")
+# The options of these with a text or a number, or with nothing, those of each command, and the short names that `mongoexport` has too.
+QUERY_FILE, _SHORT = "--queryFile", {"-q": "--query", "-f": "--fields"}
+_TEXTS, _NUMBERS = ("--query", QUERY_FILE, "--sort", "--index", "--after", "--fields"), ("--skip", "--limit", "--batch")
 _FLAGS, _WITH_VALUES = ("--bson", "--count", *LAYOUT[3:]), (*_TEXTS, *_NUMBERS, *CHOICES)
 _OPTIONS = {"check": (), "dump": LAYOUT, "find": (*_WITH_VALUES, *_FLAGS), PACK: ()}
 # Options that do not go with others, as of the program, and what an option needs beside it.
@@ -48,6 +50,7 @@ def become_program(words: list[str]) -> None:
     command, (files, options) = rest[0], _split(rest[1:])
     given = {name: value for name, _, value in ("=".join(it).partition("=") for it in options)}
     is_refused = len(given) != len(options) or not {*given} <= {*_OPTIONS[command]} or refusal(given) is not None
+    is_refused |= QUERY_FILE in given and ("--query" in given or _is_input(given[QUERY_FILE]))
     if len(files) != 1 or files[0] != "-" and files[0].startswith("-") or is_refused:
         return
     file = files[0]
@@ -84,8 +87,10 @@ def _split(words: list[str]) -> tuple[list[str], list[list[str]]]:
     options: list[list[str]] = []
     while words:
         name, equals, value = words[0].partition("=")
+        name = _SHORT.get(name, name)
         taken = words[: 1 if equals or name not in _WITH_VALUES else 2]
         del words[: len(taken)]
+        taken[0] = name + equals + value
         if len(taken) == 2 and not taken[1].startswith("-"):
             equals, value = "=", taken[1]
         if taken[0] in _FLAGS or equals and _is_option(name, value):
@@ -156,6 +161,14 @@ def _has_streams() -> bool:
         return False
 
 
+def _is_input(name: str) -> bool:
+    """Whether a file is standard input, which is to be the dump: then the query is read before that."""
+    try:
+        return name == "-" or os.path.samestat(os.stat(name), os.fstat(0))
+    except (OSError, ValueError):
+        return False  # The program says what is wrong with it.
+
+
 def _take_as_input(name: str) -> bool:
     """Makes standard input of a plain file; False if it is another one."""
     descriptor = 0 if name == "-" else _plain(name)
@@ -199,4 +212,20 @@ def _is_plain(descriptor: int) -> bool:
     if not stat.S_ISREG(status.st_mode):
         return False
     at = os.lseek(descriptor, 0, os.SEEK_CUR)
-    return status.st_size - at <= _LARGEST and not os.pread(descriptor, 4, at).startswith(_OTHERS)
+    if status.st_size - at > _LARGEST:
+        return False
+    head = os.pread(descriptor, _HEAD, at)
+    return not head.startswith(_OTHERS) and (_begins_document(head) or _is_no_other(head))
+
+
+def _begins_document(head: bytes) -> bool:
+    """Whether it begins with the length of a document, and if that is longer than 5 bytes, with the type of a field after it."""
+    length = int.from_bytes(head[:4], "little")
+    return 5 <= length <= _LONGEST and (length == 5 or head[4:5] > b"\0")
+
+
+def _is_no_other(head: bytes) -> bool:
+    """Whether what begins no document is no file of tar or the like either, of which the package says what it is."""
+    from .._dumps.kinds import other_kind
+
+    return other_kind(head) is None

@@ -78,6 +78,10 @@ class Output(AbstractContextManager["Output"]):
         with naming(self.name):
             self._file.write(data)
 
+    def fileno(self) -> int:
+        """The descriptor, for what writes to it by itself."""
+        return self._file.fileno()
+
     def complete(self) -> None:
         """Has all bytes on the disk."""
         with naming(self.name):
