@@ -10,7 +10,7 @@ _bsonkit() {
 	local word=${COMP_WORDS[COMP_CWORD]} command=${COMP_WORDS[1]} before=${COMP_WORDS[COMP_CWORD - 1]} options
 	COMPREPLY=()
 	if ((COMP_CWORD == 1)); then
-		mapfile -t COMPREPLY < <(compgen -W 'check dump pack find serve audit salvage unpack compare query count schema info grep ids --help --version' -- "$word")
+		mapfile -t COMPREPLY < <(compgen -W 'check dump pack find serve audit salvage show unpack compare query count schema info grep ids --help --version' -- "$word")
 		return
 	fi
 	case $before in
@@ -18,22 +18,24 @@ _bsonkit() {
 		mapfile -t COMPREPLY < <(compgen -W "$([[ $before == --type ]] && echo json csv || echo canonical relaxed)" -- "$word")
 		return
 		;;
-	--query | --sort | --index | --after | --skip | --limit | --batch | --jobs | --max-faults | --fields | --by | --sum | --sample | --only | --regex | --timeout) return ;;
+	-q | --query | -f | --sort | --index | --after | --skip | --limit | --batch | --jobs | --max-faults | --fields | --by | --sum | --sample | --only | --regex | --timeout) return ;;
 	esac
 	if [[ $word != -* ]]; then
 		_bsonkit_files "$word"
 		return
 	fi
 	case $command in
-	dump) options='--type --jsonFormat --fields --noId --jsonArray --pretty --noHeaderLine' ;;
-	find) options='--query --sort --index --after --skip --limit --batch --type --jsonFormat --fields --noId --jsonArray --pretty --noHeaderLine --bson --count' ;;
+	dump) options='--type --jsonFormat --fields --noId --jsonArray --pretty --noHeaderLine --outFile' ;;
+	pack) options='--outFile' ;;
+	find) options='--query --queryFile --sort --index --after --skip --limit --batch --type --jsonFormat --fields --noId --jsonArray --pretty --noHeaderLine --bson --count --outFile' ;;
 	serve) options='--byValue' ;;
-	audit) options='--list --expect --json --quiet --jobs --max-faults' ;;
+	audit) options='--list --expect --ids --json --quiet --jobs --max-faults' ;;
 	salvage) options='--good --bad --out' ;;
+	show) options='--bson' ;;
 	unpack) options='--only --no-crc' ;;
 	compare) options='--by' ;;
-	query) options='--list --query --jobs' ;;
-	count) options='--query --by --sum --json' ;;
+	query) options='--list --query --queryFile --limit --outFile --jobs' ;;
+	count) options='--query --queryFile --by --sum --json' ;;
 	schema) options='--sample --json' ;;
 	info) options='--list --json --jobs' ;;
 	grep) options='--list --regex --ignore-case --timeout --count --json --jobs' ;;
