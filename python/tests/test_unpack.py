@@ -377,11 +377,12 @@ class Audits(Room):
     """Audits of whole archives."""
 
     def audit(self, data: bytes, *words: str, status: int, name: str = "a") -> List[str]:
-        """The lines of an audit of an archive, in place of whose name is A."""
+        """The lines of an audit of an archive, in place of whose name is A, but the last one, which says that ids were not compared."""
         path = self.file(data, name)
         run = run_package("audit", str(path), *words)
         self.assertEqual((run.returncode, run.stderr), (status, ""))
-        return run.stdout.replace(str(path), "A").splitlines()
+        lines = run.stdout.replace(str(path), "A").splitlines()
+        return lines[:-1] if lines[-1].startswith("ids were not compared") else lines
 
     def test_each_collection(self) -> None:
         """By the names of the log of mongodump, in one pass, of a file of gzip too."""
@@ -495,7 +496,7 @@ class Members(Room):
     def test_commands(self) -> None:
         path = self.people[0]
         lines = run_package("audit", *self.people).stdout.splitlines()
-        self.assertEqual(lines[2:], ["files                2", "documents         1000", "faulty               0"])
+        self.assertEqual(lines[2:-1], ["files                2", "documents         1000", "faulty               0"])
         run = run_package("compare", path, str(PEOPLE))
         self.assertEqual((run.returncode, run.stdout), (0, ""))
         run = run_package("query", path, "--query", '{"age":99}')

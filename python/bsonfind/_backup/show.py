@@ -15,9 +15,9 @@ from .._run.processes import Dump
 from .beginnings import Window
 from .cells import NAMES, TEXTS
 
-# A document in more documents than this is shown as bytes, since `check` finds it too deep, and no more bytes than this are shown of
-# what no length leads through.
-_DEEPEST, _MOST_SHOWN = 199, 32
+# A document in more documents than this is shown as bytes, since `check` finds it too deep; no more bytes than this are shown of what no
+# length leads through, and no more characters of a path.
+_DEEPEST, _MOST_SHOWN, _LONGEST_PATH = 199, 32, 1000
 _PIECE = 1 << 20
 _EMPTY = b"\x05\0\0\0\0"
 
@@ -34,8 +34,6 @@ class Element:
     kind: int | None
     name: bytes
     value: bytes
-    # Where the value begins.
-    start: int
     fault: str | None = None
     # Whether nothing of it is sound. Of a document with a wrong length its elements may be.
     is_lost: bool = False
@@ -80,7 +78,7 @@ class Shown:
 
 
 def show(path: str, number: int, program: str) -> Shown:
-    """The document of a number, from 0 on. One that is not found, since a length before it is wrong or there are fewer, is a `DumpError`."""
+    """The document of a number, from 0 on. Where a length before it is wrong, or there are fewer, that is a `DumpError`."""
     try:
         at, data, is_whole = _bytes_of(path, number)
     except DumpError as error:
@@ -132,8 +130,8 @@ class _Walk:
             if not start:
                 return self._rest(at, stop, found, "no name of a field ends in them", is_known)
             kind, name = data[at], data[at + 1 : start - 1]
-            below = f"{path}.{_text(name)}" if path else _text(name)
-            element = Element(self._offset + at, below, kind, name, b"", self._offset + start)
+            below = (f"{path}.{_text(name)}" if path else _text(name))[:_LONGEST_PATH]
+            element = Element(self._offset + at, below, kind, name, b"")
             found.append(element)
             after = value_end(data, kind, start)
             if element.is_nested and level < _DEEPEST:
@@ -160,16 +158,14 @@ class _Walk:
         """Adds the bytes from a place on to which nothing leads; where the length of their document is known, that leads on."""
         if at < stop:
             told = f"{stop - at} bytes: {text}"
-            found.append(Element(self._offset + at, "", None, b"", self._data[at:stop], self._offset + at, told))
+            found.append(Element(self._offset + at, "", None, b"", self._data[at:stop], told))
         return stop if is_known else None
 
 
 def _look_at(elements: list[Element], program: str) -> None:
     """Notes what `check` finds wrong with elements, each in a document that has it alone."""
     looked = [it for top in elements for it in top.all() if it.kind is not None and not it.is_lost]
-    documents = [
-        document_with(it.name, bytes((it.kind or 0,)) + (_EMPTY if it.is_nested else it.value)) for it in looked
-    ]
+    documents = [document_with(it.name, bytes((it.kind or 0,)) + (_EMPTY if it.is_nested else it.value)) for it in looked]
     ends, at = list[int](), 0
     for data in documents:
         ends.append(at := at + len(data))

@@ -19,7 +19,7 @@ def print_document(words: argparse.Namespace) -> int:
     if words.bson:
         console.documents([document_of(shown.elements)])
     else:
-        rows = ((str(it.offset), it.path, "" if it.kind is None else NAMES.get(it.kind, ""), text, it.fault or "") for it, text in values_of(shown, words.program))
+        rows = ((str(it.offset), it.path, NAMES.get(it.kind or 0, ""), text, it.fault or "") for it, text in values_of(shown, words.program))
         Table(console, ("byte", "path", "type", "value", "fault")).print(rows)
     console.note(f"{shown.size} bytes at byte {shown.offset}: {shown.fault.moved(0, 0) if shown.fault else 'no fault'}")
     return FAULTY if shown.fault else GOOD
