@@ -223,7 +223,7 @@ class StandardInput(Room):
         """Files of other programs that have a dump in them, by what they are called."""
         found: Dict[str, bytes] = {}
         for kind in (tarfile.USTAR_FORMAT, tarfile.GNU_FORMAT, tarfile.PAX_FORMAT):
-            for name in ("./", "db", "dump/club/people.bson", "é" * 120):
+            for name in ("./", "db", "dump/club/people.bson", "é" * (40 if kind == tarfile.USTAR_FORMAT else 120)):
                 out = io.BytesIO()
                 with tarfile.open(fileobj=out, mode="w", format=kind) as tar:
                     header = tarfile.TarInfo(name)

@@ -30,12 +30,12 @@ sys.path.insert(0, str(Path(__file__).resolve().parents[1]))
 from support import PROGRAM, ROOT
 
 # What a command writes, and a word of it that may name a file.
-WRITTEN = re.compile(r"\d?>>?\s*\S+|\bmv \S+ \S+|\btee \S+|\bof=\S+|--(?:good|bad|missing|out) \S+")
+WRITTEN = re.compile(r"\d?>>?\s*\S+|\bmv \S+ \S+|\btee \S+|\bof=\S+|--(?:good|bad|missing|out) \S+| -o \S+")
 WORD = re.compile(r"(?<![\w./$*-])(?<!bsonfind )(?<!bsonwide )(?<!bsonkit )\w[\w./*-]*")
 FUNCTION = re.compile(r"(\w+)\(\) \{")
 # Programs that see a damaged file; cp, head and others take it as it is.
 JUDGES = re.compile(r"\b(?:bsonfind|bsonwide|bsonkit|python3|bash|node)\b")
-FAULT = re.compile(r"\b(?:bsonfind|bsonwide|bsonkit): |^\w+\.(?:py|sh|mjs): |, [1-9]\d* faulty(?:, \d+ with doubles or decimal128)?$|, [1-9]\d* to bad\.|, [1-9]\d* bytes left out$", re.MULTILINE)
+FAULT = re.compile(r"\b(?:bsonfind|bsonwide|bsonkit): |^\w+\.(?:py|sh|mjs): |, [1-9]\d* faulty(?:, \d+ with doubles or decimal128)?$|, [1-9]\d* to bad\.|, [1-9]\d* bytes left out$|^\d+ bytes at byte \d+: document ", re.MULTILINE)
 # A program that a machine may not have, where a command begins with it or pipes to it.
 OPTIONAL = re.compile(r"(?:^|\| )(node|pv)\b")
 # A script that imports what a Python may not have.
