@@ -199,7 +199,7 @@ class Unpacks(Room):
         self.assertEqual(run.returncode, 1)
         for name in ("club/people", "shop/orders"):
             self.assertIn(f"O/{name}.bson.part: not whole: unpack left it so\n", self.named(run.stdout))
-        self.assertEqual(run.stdout.count("\n"), 2 + 4)
+        self.assertEqual(run.stdout.count("\n"), 2 + 5)
 
     def test_gzip_that_was_cut(self) -> None:
         told = "bsonkit: A: not a sound file of gzip: it ends too soon\n"
