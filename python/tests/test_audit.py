@@ -501,7 +501,7 @@ class Audits(Room):
             self.assertEqual([it for it in lines if stem in it][1][: len(f"{buckets}: metadata: {stem}.metadata.json: ")], f"{buckets}: metadata: {stem}.metadata.json: ")
             self.assertEqual(lines[-1], self.table(("without metadata", 1))[0])
             beside.unlink()
-            # Of a file that is named by itself no metadata is wanted.
+            # A file that is named by itself needs no metadata.
             self.audit(str(buckets), status=0)
             buckets.unlink()
 

@@ -1,4 +1,4 @@
-"""Tests of `salvage --out`: of directories with files that are not whole, and of archives, also of cut ones."""
+"""Tests of `salvage --out`: of directories with files that are not whole, and of archives, also of truncated ones."""
 
 import gzip
 import os
@@ -57,7 +57,7 @@ class Backups(Room):
         self.assertEqual(self.written(), wanted)
 
     def test_cut_archive(self) -> None:
-        """All good documents before the cut, of each collection, also of one that was just begun."""
+        """All good documents up to its end, of each collection, also of one that was just begun."""
         data = archive([("club", "people", PEOPLE_DATA), ("shop", "orders", SHOP_DATA)], 50, others=[listed("shop", "late")])
         half = self.file(data[: len(data) // 2], "half.archive")
         lines = self.salvage(half, 1)
@@ -73,7 +73,7 @@ class Backups(Room):
             self.assertIn(f"{half}::{name}: no end", lines)
         self.assertIn(f"{half}: byte {len(data) // 2}: the archive ends inside a block", lines)
         self.assertEqual(written["club/people.metadata.json"], METADATA % b"people")
-        # One whose list is cut has no document that could be found.
+        # One whose list is truncated has no document that could be found.
         self.out = self.room / "none"
         head = self.file(data[:300], "head.archive")
         self.assertEqual(self.salvage(head, 1), [f"{head}: byte 300: the archive ends inside a block"])

@@ -1,4 +1,4 @@
-"""Tests of `show`: a document element by element, up to its fault and behind it."""
+"""Tests of `show`: a document element by element, up to its fault and after it."""
 
 import gzip
 import json
@@ -42,7 +42,7 @@ class Shows(Room):
         return [(offset + by, *others) for offset, *others in rows]  # type: ignore[misc]
 
     def test_good_documents(self) -> None:
-        """The first, one behind others, one that gzip packed; the offsets are those of the types of elements."""
+        """The first, one after others, one that gzip packed; the offsets are those of the types of elements."""
         size = len(CUSTOMER)
         self.assertEqual(self.show(CUSTOMER, 0, 0), (GOOD, f"{size} bytes at byte 0: no fault\n"))
         at = len(PEOPLE.read_bytes())
@@ -74,7 +74,7 @@ class Shows(Room):
         self.assertEqual((status, mended), (1, document(ID, ADDRESS, AGE)))
 
     def test_several_faults(self) -> None:
-        """Each is marked, also behind the first one: of a boolean, of a name, in a document in a document."""
+        """Each is marked, also after the first one: of a boolean, of a name, in a document in a document."""
         bad_name = b"\x10\xffge\0" + int32(1)
         inner = field(0x03, "a", document(field(0x03, "b", document(field(0x08, "c", b"\7"), AGE)), MAIL))
         data = document(ID, field(0x08, "vip", b"\2"), bad_name, inner, AGE)
@@ -96,7 +96,7 @@ class Shows(Room):
         self.assertEqual(run_of_bytes("show", str(self.room / "dump.bson"), "0", "--bson")[1], mended)
 
     def test_lengths_of_documents_inside(self) -> None:
-        """One that is wrong is marked, and its own fields lead on to what is behind it."""
+        """One that is wrong is marked, and its fields lead on to what is after it."""
         at = CUSTOMER.index(b"address") + 8
         for wrong in (0, 4, 5, 300, 0x7FFFFFFF, -1):
             data = CUSTOMER[:at] + int32(wrong) + CUSTOMER[at + 4 :]
@@ -109,7 +109,7 @@ class Shows(Room):
                     self.assertEqual([row[:4] for row in rows], [row[:4] for row in GOOD])
 
     def test_types_and_lengths_that_lead_nowhere(self) -> None:
-        """What is before them is there, and the bytes from there on are counted; behind the document in which it is, its length leads on."""
+        """What is before them is there, and the bytes from there on are counted; after the document in which it is, its length leads on."""
         at = CUSTOMER.index(b"mail") - 1
         data = CUSTOMER[:at] + b"\x14" + CUSTOMER[at + 1 :]
         rows, _ = self.show(data, 0, 1)
@@ -125,7 +125,7 @@ class Shows(Room):
         self.assertEqual(rows[5], GOOD[-1])
 
     def test_a_document_with_a_wrong_length(self) -> None:
-        """It is shown up to the zero after its fields, where it is cut as far as it is there."""
+        """It is printed up to the zero after its fields; one that was truncated, as far as it is there."""
         for length in (-1, 0, 4, 0x7FFFFFFF):
             data = int32(length) + CUSTOMER[4:] + PEOPLE.read_bytes()
             rows, told = self.show(data, 0, 1)

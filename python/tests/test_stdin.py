@@ -172,7 +172,7 @@ class StandardInput(Room):
     )
 
     def test_gzip_by_any_name(self) -> None:
-        """What begins as gzip is unpacked wherever a dump is read, whatever its name is."""
+        """What begins as gzip is unpacked by each command that reads a dump, whatever its name is."""
         self.file(b"7\n", "ids")
         data = gzip.compress(PEOPLE.read_bytes()[:39978]) + gzip.compress(PEOPLE.read_bytes()[39978:])
         for words, out, told in self.READING:

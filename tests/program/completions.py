@@ -121,8 +121,24 @@ OF_BSONWIDE: list[Row] = [
     ("find one.bson --batch 3 --", WIDE_OPTIONS - {"--batch", "--count"}, set()),
     ("find --bson ", DUMPS | {"-"}, WIDE_OPTIONS - LAYOUT - {"--bson", "--count"} | OTHERS),
 ]
-ROWS = {"bsonfind": OF_BSONFIND, "bsonwide": OF_BSONWIDE}
-KNOWN = COMMANDS | OF_WIDE | WIDE_OPTIONS | BY_VALUE | FORMATS | TYPES | DUMPS | OTHERS | HELP | {"-"}
+# Of bsonkit, what the programs have not; python/tests/test_bsonkit.py compares all options with those that it takes.
+OF_BSONKIT: list[Row] = [
+    ("s", {"serve", "salvage", "show", "schema"}, set()),
+    ("find one.bson --q", {"--query", "--queryFile"}, set()),
+    ("find --queryFile l", {"lines.jsonl"}, set()),
+    ("find one.bson --query ", set(), set()),
+    ("find one.bson --out", {"--outFile"}, set()),
+    ("pack lines.jsonl --o", {"--outFile"}, set()),
+    ("query --li", {"--list", "--limit"}, set()),
+    ("count --q", {"--query", "--queryFile"}, set()),
+    ("audit --i", {"--ids"}, set()),
+    ("show o", {"one.bson"}, set()),
+    ("show one.bson 3 --b", {"--bson"}, set()),
+    ("salvage one.bson --o", {"--out"}, set()),
+]
+OF_KIT = {"audit", "salvage", "show", "unpack", "compare", "query", "count", "schema", "info", "grep", "ids", "--outFile", "--out", "--ids", "--list"}
+ROWS = {"bsonfind": OF_BSONFIND, "bsonwide": OF_BSONWIDE, "bsonkit": OF_BSONKIT}
+KNOWN = COMMANDS | OF_WIDE | OF_KIT | WIDE_OPTIONS | BY_VALUE | FORMATS | TYPES | DUMPS | OTHERS | HELP | {"-"}
 PROMPT = "ready> "
 
 
@@ -178,7 +194,7 @@ def main() -> int:
         bash = Terminal(
             ["bash", "--norc", "--noprofile"],
             f"bind 'set show-all-if-ambiguous on' 'set bell-style none'; source {COMPLETIONS}/bsonfind.bash;"
-            f" source {COMPLETIONS}/bsonwide.bash",
+            f" source {COMPLETIONS}/bsonwide.bash; source {COMPLETIONS}/bsonkit.bash",
             room,
         )
         zsh = Terminal(

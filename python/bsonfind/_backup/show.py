@@ -1,4 +1,4 @@
-"""A document element by element, as far as lengths lead, also behind what is damaged in it; what is bad is found by runs of `check`."""
+"""A document element by element, as far as lengths lead, also after what is damaged in it; what is bad is found by runs of `check`."""
 
 from __future__ import annotations
 
