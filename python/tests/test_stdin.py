@@ -14,6 +14,7 @@ from contextlib import suppress
 from typing import Dict, Iterator, List, Tuple
 
 from bsonfind import find, find_one
+from bsonfind._dumps.sources import Source
 
 from .archives import archive
 from .support import COMMAND, PATIENCE, PEOPLE, PROGRAM, ROOT, Room, environment
@@ -256,6 +257,21 @@ class StandardInput(Room):
                         text = f"a file of {kind}, and no dump: unpack it, and name the dumps in it\n"
                         self.assertIn(text, found.decode() if words[0] == "audit" else said)
                         self.assertNotIn("bad length", found.decode() + said)
+
+    def test_a_pipe_that_stalls(self) -> None:
+        """Bytes that may be a tar, or of gzip, are waited for about a second: else a wrong length would not be reported before the end."""
+        for data in (b"\xff\xff\xff\x7f", b"./\0\0", b"text", b"\x1f\x8b\x08\0"):
+            read, write = os.pipe()
+            os.write(write, data)
+            timer = threading.Timer(PATIENCE, os.close, [write])
+            timer.start()
+            start = time.monotonic()
+            with Source(f"/dev/fd/{read}") as source:
+                self.assertEqual(source.head, data)
+            self.assertLess(time.monotonic() - start, PATIENCE / 2)
+            timer.cancel()
+            os.close(read)
+            os.close(write)
 
     def test_dumps_that_are_no_other_files(self) -> None:
         """A length that is the name of a file, and text that is no dump: what is wrong is the length, as before."""

@@ -14,7 +14,9 @@ _BEGINNINGS = {
 _KNOWN = (ARCHIVE, *_BEGINNINGS)
 # How many bytes say which of these it is; of tar, by POSIX, a header: the name of a file, zeros after it, and a checksum, which is the
 # sum of all bytes with spaces in place of its own octal digits.
-_FEW, _TAR, _NAME, _CHECKSUM = 4, 512, 100, slice(148, 156)
+FEW, _TAR, _NAME, _CHECKSUM = 4, 512, 100, slice(148, 156)
+# What the bytes of a name are among: no control characters, and none that UTF-8 does not have.
+_OF_NAMES = bytes([*range(0x20, 0x7F), *range(0x80, 0xF8)])
 
 
 def other_kind(head: bytes) -> str | None:
@@ -27,7 +29,7 @@ def other_kind(head: bytes) -> str | None:
 
 def is_known(head: bytes) -> bool:
     """Whether these bytes say what it is, whatever follows them: of a pipe no more are waited for."""
-    if len(head) < _FEW or head.startswith(GZIP):
+    if len(head) < FEW or head.startswith(GZIP):
         return len(head) >= HEAD
     return len(head) >= _TAR or head.startswith(_KNOWN) or not _may_be_tar(head)
 
@@ -35,7 +37,7 @@ def is_known(head: bytes) -> bool:
 def _may_be_tar(head: bytes) -> bool:
     """Whether it begins with the name of a file, which zeros follow."""
     name, _, rest = head[:_NAME].partition(b"\0")
-    return bool(name) and min(name) >= ord(" ") and not rest.strip(b"\0")
+    return bool(name) and not name.strip(_OF_NAMES) and not rest.strip(b"\0")
 
 
 def _is_tar(header: bytes) -> bool:

@@ -14,9 +14,11 @@ from .._run.processes import Dump
 from . import framing, gzip
 from .archive import Listed, documents_of, is_archive
 from .files import HEAD, INSIDE, STDIN, FileState, member_of
-from .kinds import is_known, other_kind
+from .kinds import FEW, is_known, other_kind
 
 _PIECE = 1 << 18
+# How many milliseconds more bytes of a pipe are waited for, where the first ones do not say what it is.
+_PATIENCE = 1000
 
 
 class Input(NamedTuple):
@@ -90,8 +92,12 @@ class Source(AbstractContextManager["Source"]):
         if self._kept is None:
             self._kept = b""
             with self._naming():
-                while not is_known(self._kept) and (piece := read_some(self.file, HEAD - len(self._kept))):
+                # A length that is wrong is reported, though what follows may be late.
+                while not is_known(self._kept) and (len(self._kept) < FEW or _has_more(self.file)):
+                    piece = read_some(self.file, HEAD - len(self._kept))
                     self._kept += piece
+                    if not piece:
+                        break
         return self._kept
 
     @property
@@ -234,6 +240,13 @@ def _standard_input() -> BinaryIO:
     with suppress(BlockingIOError):  # It can be read later.
         os.read(0, 0)
     return open(0, "rb", buffering=0, closefd=False)
+
+
+def _has_more(file: BinaryIO) -> bool:
+    """Whether more bytes come soon, or the end."""
+    waiting = select.poll()
+    waiting.register(file, select.POLLIN)
+    return bool(waiting.poll(_PATIENCE))
 
 
 def read_some(file: BinaryIO, most: int) -> bytes:
