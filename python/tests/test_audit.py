@@ -581,6 +581,9 @@ class Audits(Room):
         (line,) = self.audit(str(PEOPLE), "--ids", "--json", status=0)
         self.assertEqual(json.loads(line)["files"][0]["repeated"], 0)
         self.assertEqual(self.audit(self.backup, "--ids", "--quiet", status=0), [])
+        self.assertEqual([(it.repeated, it.repeats) for it in audit(path, ids=True, max_faults=1, program=PROGRAM).reports], [(2, [('"a"', 2)])])
+        self.assertIsNone(audit(path, program=PROGRAM).reports[0].repeated)
+        self.assertRaises(BsonfindError, audit, path, ids=1, program=PROGRAM)
         run = run_package("audit", "-", "--ids", input="")
         self.assertEqual(run.returncode, 0)
         with open(path, "rb") as file, subprocess.Popen(["cat"], stdin=file, stdout=subprocess.PIPE) as cat:

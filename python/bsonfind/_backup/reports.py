@@ -70,7 +70,7 @@ class Report:
 
     @property
     def counted(self) -> str:
-        """How many documents there are, and what is left of one that was cut."""
+        """How many documents there are, and how many bytes of one that was truncated."""
         return f"{self.documents - 1} documents and a rest of {self.rest} bytes" if self.rest else f"{self.documents} documents"
 
     def names_in_log(self) -> list[str]:

@@ -15,8 +15,8 @@ from .._run.processes import Dump
 from .beginnings import Window
 from .cells import NAMES, TEXTS
 
-# A document in more documents than this is shown as bytes, since `check` finds it too deep; no more bytes than this are shown of what no
-# length leads through, and no more characters of a path.
+# A document in more documents than this is printed as bytes, since `check` finds it too deep; no more bytes than this are printed of what
+# no length leads through, and no more characters of a path.
 _DEEPEST, _MOST_SHOWN, _LONGEST_PATH = 199, 32, 1000
 _PIECE = 1 << 20
 _EMPTY = b"\x05\0\0\0\0"
