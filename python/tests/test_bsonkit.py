@@ -290,7 +290,9 @@ class Programs(Room):
             (("salvage", plain, "--good", f"{self.room}/g", "--bad", f"{self.room}/b"), 2),
             (("salvage", f"{self.room}/backup", "--out", f"{self.room}/out"), 2), (("compare", plain, plain), 2),
             (("query", plain, wide, "--query", '{"d":1.5}'), 2), (("info", wide), 2), (("grep", "ada", plain), 2), (("ids", wide, "--ids", ids), 2), (("ids", plain, "--ids", ids, "--bson"), 2),
-            (("count", packed), 2), (("schema", packed), 2),
+            (("count", packed), 2), (("schema", packed), 2), (("show", plain, "7"), 2), (("salvage", str(ROOT / "examples/backup.archive"), "--out", f"{self.room}/out2"), 2),
+            (("compare", str(ROOT / "examples/backup.archive"), str(ROOT / "examples/backup.archive")), 2), (("find", plain, "--outFile", f"{self.room}/new"), 1),
+            (("pack", str(ROOT / "examples/people.jsonl"), "-o", f"{self.room}/new"), 1),
         ]  # fmt: skip
 
     def test_version(self) -> None:

@@ -6,7 +6,7 @@ import random
 import resource
 from typing import List, Tuple
 
-from .bson import document, double, field, int32, int64, string, text
+from .bson import document, field, int32, string
 from .support import DAMAGED, PEOPLE, PEOPLE_LINES, Room, packed, run_of_bytes
 
 # A customer, whose e-mail address has a bad byte.
