@@ -250,7 +250,8 @@ class StandardInput(Room):
         self.file(b"7\n", "ids")
         for number, (name, data) in enumerate(self.others().items()):
             kind = name.split()[0]
-            for words, _, _ in self.READING if number == 1 else self.READING[:1]:
+            all_words = [words for words, _, _ in self.READING] + [("unpack", "FILE", "unpacked")]
+            for words in all_words if number == 1 else all_words[:1]:
                 for way, status, found, said in self.ways(data, *words):
                     with self.subTest((name, words, way)):
                         self.assertEqual(status, 1 if words[0] in ("check", "dump", "find") else 2)

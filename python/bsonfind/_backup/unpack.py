@@ -80,6 +80,8 @@ def unpack(
     with ExitStack() as files:
         try:
             source = files.enter_context(Source(name))
+            if not source.is_archive:
+                source.refuse_others()  # such as a tar, which is named as that
             files.enter_context(progress(source))
             member = member_of(name)
             wanted = None if only is None else [Namespace.of(it) for it in only]
