@@ -18,8 +18,9 @@ from .._run.processes import Group, Run, close, processors
 from . import serving
 
 T = TypeVar("T")
-# A process takes the package from where this one has it.
-_CODE = f"import pickle, sys; sys.path[:] = pickle.load(sys.stdin.buffer); from {serving.__name__} import serve; serve()"
+# A process takes the package from where this one has it. Its first path is not the folder at hand, where anyone may have a pickle.py.
+_OPTIONS = ("-I", "-S", "-c")
+_CODE = f"import pickle, sys; sys.path[:], sys.dont_write_bytecode = pickle.load(sys.stdin.buffer); from {serving.__name__} import serve; serve()"
 
 
 def begun_ahead(streams: Iterable[Iterator[T]], most: int) -> Iterator[T]:
@@ -63,10 +64,10 @@ class Workers:
     def _start(self) -> Run:
         if not sys.executable:
             raise ProgramError("cannot start Python: it is not known where it is")
-        worker = Run([sys.executable, "-S", "-c", _CODE], stdin=subprocess.PIPE, group=self._group)
+        worker = Run([sys.executable, *_OPTIONS, _CODE], stdin=subprocess.PIPE, group=self._group)
         with self._lock:
             self._all.append(worker)
-        for it in (sys.path, self._work):
+        for it in ((sys.path, sys.dont_write_bytecode), self._work):
             pickle.dump(it, worker.stdin)
         return worker
 
