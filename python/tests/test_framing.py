@@ -2,10 +2,12 @@
 
 import gzip
 import random
+import struct
+import time
 import unittest
 from typing import Iterator, List, Tuple
 
-from bsonfind._dumps.framing import inputs
+from bsonfind._dumps.framing import documents_taken, inputs
 from bsonfind._dumps.gzip import UnpackError, unpacked
 
 from .support import PEOPLE
@@ -59,6 +61,41 @@ class Inputs(unittest.TestCase):
         _, _, pieces = next(all_inputs)
         next(pieces)
         self.assertEqual(list(all_inputs), [])
+
+
+class Taking(unittest.TestCase):
+    def taken(self, data: bytes, size: int) -> List[bytes]:
+        """The documents that are taken of bytes in pieces of a size, which pass as they are."""
+        found: List[bytes] = []
+        pieces = [data[at : at + size] for at in range(0, len(data), size)]
+        self.assertEqual(list(documents_taken(pieces, found.append)), pieces)
+        return found
+
+    def test_documents_of_all_lengths(self) -> None:
+        wanted, at = [], 0
+        while len(wanted) < 20:
+            (length,) = struct.unpack_from("<i", PEOPLE.read_bytes(), at)
+            wanted.append(PEOPLE.read_bytes()[at : at + length])
+            at += length
+        data, long = b"".join(wanted), (1 << 14).to_bytes(4, "little") + bytes(-4 + (1 << 14))
+        for size in (1, 3, 4, 7, 150, 1 << 12, 1 << 30):
+            for bad in (b"", b"\1", b"\1\2\3", b"\4\0\0\0", b"\4\0\0\0" + data, b"\xff" * 9000, long[:-1]):
+                self.assertEqual(self.taken(data + bad, size), wanted)
+            self.assertEqual(self.taken(long + data + long + long + data, size), [long, *wanted, long, long, *wanted])
+
+    def test_time_of_long_documents(self) -> None:
+        """That of their bytes, in however many pieces they come."""
+        document = (1 << 24).to_bytes(4, "little") + bytes(-4 + (1 << 24))
+
+        def seconds(size: int) -> float:
+            times = []
+            for _ in range(3):
+                begun = time.process_time()
+                self.assertEqual(len(self.taken(document, size)), 1)
+                times.append(time.process_time() - begun)
+            return min(times)
+
+        self.assertLess(seconds(1 << 14), 10 * seconds(1 << 22))
 
 
 class Unpacking(unittest.TestCase):

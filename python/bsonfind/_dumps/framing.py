@@ -58,18 +58,24 @@ def ends_in(pieces: Iterable[bytes]) -> Iterator[int]:
 
 def documents_taken(pieces: Iterable[bytes], take: Callable[[bytes], None]) -> Iterator[bytes]:
     """The pieces as they pass, whose documents are taken. After a wrong length, which is a fault, none is."""
-    rest, is_wrong = b"", False
+    # The pieces since the last document, how many bytes they have, and how many are looked at next: a length, or a document. So the
+    # pieces of a long one are joined once.
+    held, size, needed, is_wrong = list[bytes](), 0, 4, False
     for piece in pieces:
-        data = rest + piece if rest else piece
-        at, size = 0, len(data)
-        while not is_wrong and at + 4 <= size:
-            (length,) = length_at(data, at)
-            is_wrong = not SHORTEST <= length <= LONGEST
-            if is_wrong or at + length > size:
-                break
-            take(data[at : at + length])
-            at += length
-        rest = b"" if is_wrong else data[at:]
+        if not is_wrong:
+            held.append(piece)
+            size += len(piece)
+            if size >= needed:
+                data, at = b"".join(held), 0
+                while at + needed <= size:
+                    (length,) = length_at(data, at)
+                    is_wrong = not SHORTEST <= length <= LONGEST
+                    if is_wrong or at + length > size:
+                        needed = length
+                        break
+                    take(data[at : at + length])
+                    at, needed = at + length, 4
+                held, size = [data[at:]], size - at
         yield piece
 
 
