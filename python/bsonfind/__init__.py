@@ -70,6 +70,8 @@ def __getattr__(name: str) -> object:
     elif name in _WHERE:
         from importlib import import_module
 
+        # The types of errors name it, and `_errors` imports nothing for that.
+        vars(import_module("._errors", __name__))["Fault"] = import_module("._faults", __name__).Fault
         value = getattr(import_module(f".{_WHERE[name]}", __name__), name)
     else:
         raise AttributeError(f"module {__name__!r} has no attribute {name!r}")

@@ -44,6 +44,21 @@ class Exports(Room):
         self.assertEqual(told, (PACKAGE.parent / "VERSION").read_text(encoding="ascii"))
 
 
+    @unittest.skipIf(sys.version_info < (3, 10), "Python reads the types of these sources from 3.10 on")
+    def test_types_that_are_read(self) -> None:
+        """Whatever reads types as Python runs, such as a framework, reads those of each name, also if it alone was imported."""
+        code = """
+import inspect, sys, typing, bsonfind
+it = getattr(bsonfind, sys.argv[1])
+for function in (value for _, value in inspect.getmembers(it, inspect.isfunction)) if inspect.isclass(it) else [it]:
+    if function.__module__.startswith("bsonfind"):
+        typing.get_type_hints(function)
+"""
+        for name in bsonfind.__all__:
+            run = subprocess.run([sys.executable, "-c", code, name], cwd=PACKAGE, capture_output=True, text=True)
+            self.assertEqual(run.stderr, "", name)
+
+
 @unittest.skipIf(sys.version_info < (3, 11), "Python tells the overloads of a function from 3.11 on")
 class Types(unittest.TestCase):
     """What `decode` says of the documents is known to a checker of types."""
