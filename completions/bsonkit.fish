@@ -25,7 +25,7 @@ complete -c bsonkit -n "not __bsonkit_command $commands" -f -a grep -d 'print th
 complete -c bsonkit -n "not __bsonkit_command $commands" -f -a ids -d 'print the documents of a file of ids'
 complete -c bsonkit -s h -l help -d 'print the usage'
 complete -c bsonkit -l version -d 'print the version'
-complete -c bsonkit -l program -r -d 'the program bsonfind'
+complete -c bsonkit -l program -r -d 'the program bsonwide, or bsonfind beside it'
 complete -c bsonkit -n '__bsonkit_command dump find' -l type -x -a 'json csv' -d 'how documents are printed'
 complete -c bsonkit -n '__bsonkit_command dump find' -l jsonFormat -x -a 'canonical relaxed' -d 'how numbers and dates are printed'
 complete -c bsonkit -n '__bsonkit_command dump find pack query' -s o -l outFile -r -d 'write to this file'

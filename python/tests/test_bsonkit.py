@@ -5,9 +5,12 @@ import gzip
 import os
 import re
 import resource
+import shutil
 import signal
 import subprocess
 import sys
+import time
+from pathlib import Path
 from typing import Dict, List, Optional, Set, Tuple
 
 from bsonfind import __version__
@@ -16,8 +19,8 @@ from bsonfind._command.program import _LARGEST, _is_plain
 
 from .archives import archive
 from .support import (
-    COMMAND, DAMAGED, DOUBLE, PATIENCE, PEOPLE, PEOPLE_LINES, PROGRAM, ROOT, SHOP, WIDE, Room, environment, run_package,
-    wait_for,
+    COMMAND, DAMAGED, DOUBLE, PACKAGE, PATIENCE, PEOPLE, PEOPLE_LINES, PROGRAM, ROOT, SHOP, WIDE, Room, environment,
+    run_package, wait_for,
 )  # fmt: skip
 
 FAULT = 'document 500, byte 92733, path "d": bad boolean'
@@ -339,6 +342,111 @@ class Programs(Room):
             (self.room / "starts").unlink()
 
 
+    def tree(self, folder: str, packages: str = "python", command: str = "bsonkit") -> Path:
+        """A folder with the package and the script bsonkit, as in the repository, or as they are installed."""
+        place = self.room / folder / packages / "bsonfind"
+        shutil.copytree(PACKAGE / "bsonfind", place, ignore=shutil.ignore_patterns("__pycache__"))
+        kit = self.room / folder / command
+        way = os.path.relpath(place.parent, kit.parent)
+        kit.parent.mkdir(exist_ok=True)
+        kit.write_bytes((ROOT / "packaging/bsonkit").read_bytes().replace(b"@PACKAGES@", way.encode()))
+        kit.chmod(0o755)
+        return kit
+
+    def outside(self, *folders: object) -> Dict[str, str]:
+        """An environment with these folders on PATH, then one with Python alone; the package is found by the script alone."""
+        alone = self.room / "python3-alone"
+        alone.mkdir(exist_ok=True)
+        if not (alone / "python3").exists():
+            (alone / "python3").symlink_to(sys.executable)
+        return {"PATH": ":".join(map(str, [*folders, alone]))}
+
+    def test_bsonwide_alone(self) -> None:
+        """It is beside the command, beside what that links to, beside the package, or on PATH; no bsonfind is there."""
+        kit = self.tree("tree")
+        installed = self.tree("prefix", "lib/python3/dist-packages", "bin/bsonkit")
+        venv = self.tree("venv", "lib/python3.11/site-packages", "bin/bsonkit")
+        for folder in ("tree", "prefix/bin", "path"):
+            self.script(f'echo {folder} "$1" >>"$ROOM/starts"\nexec "$WIDE" "$@"', f"{folder}/bsonwide")
+        (self.room / "links").mkdir()
+        (self.room / "links/bsonkit").symlink_to("again")
+        (self.room / "links/again").symlink_to("../tree/bsonkit")
+        path, links = self.room / "path", self.room / "links"
+        for command, env, wanted in (
+            ([kit], self.outside(), "tree"), ([kit], self.outside(path), "tree"), ([links / "bsonkit"], self.outside(path), "tree"),
+            (["bsonkit"], self.outside(links), "tree"), ([installed], self.outside(path), "prefix/bin"), ([venv], self.outside(path), "path"),
+            ([sys.executable, "-m", "bsonfind"], {**self.outside(path), "PYTHONPATH": str(self.room / "tree/python")}, "tree"),
+            ([venv, "--program", "bsonfind"], self.outside(path), "path"), ([venv, "--program", self.room / "tree/bsonwide"], self.outside(path), "tree"),
+        ):  # fmt: skip
+            for words in (["check", PEOPLE], ["audit", PEOPLE], ["count", "--query", '{"age":{"$gte":90}}', PEOPLE]):
+                run = subprocess.run([*map(str, [*command, *words])], env=env, cwd=self.room, capture_output=True, text=True)
+                self.assertEqual((run.returncode, {*(it.split()[0] for it in self.starts())}), (0, {wanted}), (command, words, run.stderr))
+                (self.room / "starts").unlink()
+        for words, _ in self.commands():
+            run = subprocess.run([str(kit), *words], env=self.outside(), capture_output=True, text=True, input="")
+            self.assertIn(run.returncode, (0, 1), (words, run.stderr))
+            self.assertNotIn("cannot", run.stderr, words)
+        code = f"import bsonfind\nprint(bsonfind.count_documents({str(PEOPLE)!r}), bsonfind.Session({str(PEOPLE)!r}).distinct('vip'))"
+        for env in ({**self.outside(), "PYTHONPATH": str(self.room / "tree/python")}, {**self.outside(path), "PYTHONPATH": str(venv.parent.parent / "lib/python3.11/site-packages")}):
+            run = subprocess.run([sys.executable, "-c", code], env=env, cwd=self.room, capture_output=True, text=True)
+            self.assertEqual((run.returncode, run.stdout), (0, "500 [True, False]\n"), run.stderr)
+
+    def test_program_that_is_named(self) -> None:
+        """`bsonfind` names the one beside it, and is not started; one that is not there, or no name, is refused by name."""
+        kit = self.tree("tree")
+        self.script("exit 7", "other/bsonfind")
+        self.script('echo "$1" >>"$ROOM/starts"\nexec "$WIDE" "$@"', "other/bsonwide")
+        env = self.outside()
+        for program in (self.room / "other/bsonfind", "other/bsonfind", "./other/bsonfind"):
+            run = subprocess.run([str(kit), "--program", program, "audit", str(PEOPLE)], env=env, cwd=self.room, capture_output=True, text=True)
+            self.assertEqual((run.returncode, "check" in self.starts()), (0, True), run.stderr)
+            (self.room / "starts").unlink()
+        run = subprocess.run([str(kit), "--program", "bsonfind", "check", str(PEOPLE)], env=self.outside(self.room / "other"), capture_output=True, text=True)
+        self.assertEqual((run.returncode, self.starts()), (0, ["--version", "check"]))
+        for program, status, told in (
+            ("none/bsonfind", 2, "cannot start none/bsonfind: No such file or directory"), ("some-name", 2, "cannot start some-name: No such file or directory"),
+            ("", 2, "program is the name of a program, not an empty one"),
+        ):  # fmt: skip
+            run = subprocess.run([str(kit), "--program", program, "audit", str(PEOPLE)], env=env, cwd=self.room, capture_output=True, text=True)
+            self.assertEqual((run.returncode, run.stdout, run.stderr), (status, "", f"bsonkit: {told}\n"))
+
+    def test_no_program(self) -> None:
+        """What was looked for is named, and where."""
+        kit = self.tree("tree")
+        self.script("exit 7", "small/bsonfind")
+        (self.room / "links").mkdir()
+        (self.room / "links/bsonkit").symlink_to("../tree/bsonkit")
+        tree, env = self.room / "tree", self.outside()
+        for command, folders in (
+            ([kit], [tree]), ([self.room / "links/bsonkit"], [self.room / "links", tree]),
+            ([kit, "--program", self.room / "small/bsonfind"], [self.room / "small", tree]),
+        ):  # fmt: skip
+            told = f"bsonkit: cannot find bsonwide: looked in {''.join(f'{it}, ' for it in folders)}and on PATH, {env['PATH']}\n"
+            for words, status in (("check", 1), ("audit", 2), ("find", 1)):
+                run = subprocess.run([*map(str, command), words, str(PEOPLE)], env=env, capture_output=True, text=True)
+                self.assertEqual((run.returncode, run.stdout, run.stderr), (status, "", told))
+        code = f"import bsonfind\ntry: bsonfind.count_documents({str(PEOPLE)!r})\nexcept bsonfind.ProgramError as error: print(error)"
+        run = subprocess.run([sys.executable, "-c", code], env={**env, "PYTHONPATH": str(tree / "python")}, capture_output=True, text=True)
+        self.assertEqual(run.stdout, f"cannot find bsonwide: looked in {tree}, and on PATH, {env['PATH']}\n", run.stderr)
+
+    def test_version_that_does_not_come(self) -> None:
+        """It is waited for a few seconds, and once, also by what becomes the program; no program is left."""
+        program = self.wide('if [ "$1" = --version ]; then echo $$ >>"$ROOM/pids"; printf "bsonwide "; exec sleep 600; fi\nexec "$WIDE" "$@"')
+        begun, how = time.monotonic(), {"env": environment(), "stdout": subprocess.PIPE, "stderr": subprocess.PIPE, "text": True}
+        code = f"import bsonfind\nbsonfind.count_documents({str(PEOPLE)!r}, program={program!r})"
+        runs = [
+            subprocess.Popen(it, **how)
+            for it in ([*COMMAND[:-1], program, "check", str(PEOPLE)], [*COMMAND[:-1], program, "audit", str(PEOPLE)], [sys.executable, "-c", code])
+        ]
+        told = f"{self.room}/bsonwide did not print its version within 5 seconds\n"
+        for run in runs:
+            out, said = run.communicate(timeout=PATIENCE)
+            self.assertEqual((out, said[-len(told) :]), ("", told))
+            self.assertNotEqual(run.returncode, 0)
+        self.assertLess(time.monotonic() - begun, 9)
+        pids = (self.room / "pids").read_text().split()
+        self.assertEqual((len(pids), [it for it in pids if os.path.exists(f"/proc/{it}")]), (3, []))
+
     def test_program_that_is_a_link(self) -> None:
         """The programs are those beside what it leads to, and not others on PATH."""
         self.script('echo "$1" >>"$ROOM/starts"\nexec "$WIDE" "$@"', "real/bsonwide")
@@ -356,6 +464,22 @@ class Programs(Room):
             self.assertEqual(run.returncode, 0, run.stderr)
             self.assertEqual(self.starts(), [words[0].replace("audit", "check")])
             (self.room / "starts").unlink()
+
+
+class Modules(Room):
+    def test_modules_of_the_folder_at_hand(self) -> None:
+        """None is run there, also by the processes of Python that work on documents: each command says what it says elsewhere."""
+        for name in ("pickle", "json", "re", "struct", "threading", "bsonfind", "sitecustomize", "usercustomize"):
+            self.file(f"open({str(self.room / 'ran')!r}, 'a').write('{name} ')\nraise SystemExit(3)\n".encode(), f"here/{name}.py")
+        data = PEOPLE.read_bytes() * 60
+        self.assertGreater(len(data), 5 << 20)
+        dump, kit, env = str(self.file(data)), str(self.kit()), {it: value for it, value in os.environ.items() if it != "PYTHONPATH"}
+        for words in (("grep", "Nairobi", dump), ("count", "--by", "age", dump), ("schema", dump), ("audit", dump), ("query", dump)):
+            there, here = (
+                subprocess.run([kit, "--program", WIDE, *words], cwd=it, env=env, capture_output=True) for it in (self.room, self.room / "here")
+            )
+            self.assertEqual((here.returncode, here.stdout, here.stderr), (0, there.stdout, there.stderr), words)
+        self.assertFalse((self.room / "ran").exists())
 
 
 class Streams(Room):

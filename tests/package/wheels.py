@@ -104,6 +104,12 @@ class Wheels(unittest.TestCase):
         self.assertIn(VERSION, self.done(tools, "--version", PYTHONPATH=str(place)))
         told = self.done(tools, "audit", "--program", PROGRAM_HERE, ROOT / "examples/people.bson", PYTHONPATH=str(place))
         self.assertIn("500 documents, 0 faulty", told)
+        # bsonwide alone, on PATH, is enough.
+        alone = self.room / "alone"
+        alone.mkdir()
+        (alone / "bsonwide").symlink_to(Path(PROGRAM_HERE).resolve().with_name("bsonwide"))
+        told = self.done(tools, "audit", ROOT / "examples/people.bson", PYTHONPATH=str(place), PATH=f"{alone}:{os.defpath}")
+        self.assertIn("500 documents, 0 faulty", told)
         listed = self.done(sys.executable, "-c", "from importlib.metadata import version\nprint(version('bsonfind'))", PYTHONPATH=str(place))
         self.assertEqual(listed, f"{VERSION}\n")
 
@@ -149,6 +155,11 @@ class Wheels(unittest.TestCase):
             self.skipTest("there is no ./bsonfind or no ./bsonwide to install")
         self.done(*make, "install")
         self.want_working(package.parent, str(package))
+        # The command finds the program beside it, also where bsonfind is gone.
+        kit = stage / "usr/local/bin/bsonkit"
+        kit.with_name("bsonfind").rename(self.room / "gone")
+        self.assertIn("500 documents, 0 faulty", self.done(kit, "audit", ROOT / "examples/people.bson", PATH=os.defpath))
+        (self.room / "gone").rename(kit.with_name("bsonfind"))
         listed = self.done(sys.executable, "-c", "from importlib.metadata import version\nprint(version('bsonfind'))", PYTHONPATH=str(package.parent))
         self.assertEqual(listed, f"{VERSION}\n")
         documents = stage / "usr/local/share/doc/bsonfind"

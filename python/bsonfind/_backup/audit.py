@@ -31,7 +31,7 @@ def audit(
     jobs: int | None = None,
     max_faults: int = MOST_FAULTS,
     ids: bool = False,
-    program: str = "bsonfind",
+    program: str = "bsonwide",
 ) -> Audit:
     """Checks the dumps of one or more names, and those below directories, several at once; `expect` is a log of mongodump.
 
@@ -52,7 +52,7 @@ def audit_dumps(
     expect: File | None = None,
     jobs: int | None = None,
     max_faults: int = MOST_FAULTS,
-    program: str = "bsonfind",
+    program: str = "bsonwide",
     take: Callable[[Report], None] = lambda _: None,
     watch: Callable[[int, int], Watch] = lambda files, size: Unwatched(),
     take_list: Callable[[str, list[Listed]], None] = lambda name, listed: None,

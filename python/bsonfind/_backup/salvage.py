@@ -67,7 +67,7 @@ def salvage(
     good: File,
     bad: File,
     *,
-    program: str = "bsonfind",
+    program: str = "bsonwide",
     say: Callable[[str], None] | None = None,
     progress: Callable[[Source], ContextManager[object]] = nullcontext,
 ) -> Salvaged:

@@ -6,6 +6,7 @@ import argparse
 import os
 import re
 
+from .._run.program import WIDE
 from .console import NAME, print_text
 from .program import CHOICES, LAYOUT, MOST, refusal
 
@@ -79,7 +80,7 @@ def _is_name(word: str) -> bool:
 def parser(name: str, words: Sequence[str] | None = None) -> argparse.ArgumentParser:
     """The parser of the arguments of the command line that begins with this name. Where its words are given only their commands have arguments."""
     main = _Parser(prog=name, epilog=_EPILOG)
-    _add_common(main, "bsonfind")
+    _add_common(main, WIDE)
     commands = main.add_subparsers(required=True, metavar="COMMAND")
     for word, about, epilog, arguments in _COMMANDS:
         is_named = words is None or word in words
@@ -98,7 +99,7 @@ def parser(name: str, words: Sequence[str] | None = None) -> argparse.ArgumentPa
 
 
 def _add_common(command: argparse.ArgumentParser, program: str) -> None:
-    command.add_argument("--program", default=program, help="the program bsonfind, with bsonwide beside it; else those on PATH")
+    command.add_argument("--program", default=program, help="the program bsonwide, or bsonfind with it beside; else the one beside bsonkit, or on PATH")
     command.add_argument("--version", action=_Version, nargs=0, help="print the version")
 
 

@@ -7,7 +7,7 @@ import signal
 import stat
 
 from .. import __version__
-from .._run.program import located_wide, says
+from .._run.program import WIDE, located_wide, says
 
 # The signals that Python ignores by itself, and where `bsonkit` notes which ones the shell ignores, before Python begins.
 _IGNORED, _NOTED = (signal.SIGPIPE, signal.SIGXFSZ), "BSONKIT_IGNORED"
@@ -40,7 +40,7 @@ def become_program(words: list[str]) -> None:
     One of another version is refused as in other commands. The file that was opened to look at it is passed on as standard input, so
     no name is opened twice.
     """
-    rest, program = list(words), "bsonfind"
+    rest, program = list(words), WIDE
     if rest[:1] == ["--program"] and len(rest) > 1:
         program, rest = rest[1], rest[2:]
     if rest[:1] == [SERVE]:

@@ -6,22 +6,24 @@ import fcntl
 import io
 import os
 import re
+import select
 import subprocess
 import threading
+import weakref
 from contextlib import AbstractContextManager, ExitStack, contextmanager, suppress
 from typing import IO, Any, BinaryIO, Iterable, Iterator, NamedTuple, Sequence
 
 from .._errors import ArgumentError, BsonfindError, OtherProcessError, ProgramError, TimedOutError, why
 from .messages import error_of
-from .program import located, wide_beside
+from .program import PATIENCE, answer, silent, wide_beside
 
 # As many bytes as a pipe of Linux holds.
 _BUFFER = 1 << 16
 # How many seconds a source of bytes that stalls is waited for, once no one reads them.
 _PATIENCE = 1.0
 _VERSION = re.compile(r"bsonwide (\S+)\n")
-# A line of the loader, such as for LD_PRELOAD, which is before the messages of the program.
-_LOADER = re.compile("^ERROR: ld\\.so: .*\n", re.MULTILINE)
+# Lines of the loader, such as for LD_PRELOAD, and after the number of the process for LD_DEBUG: they are no messages of the program.
+_LOADER = re.compile("^(?:ERROR: ld\\.so: .*| *[0-9]+:\t.*)\n", re.MULTILINE)
 # The programs of which it is known that they have the version of the package.
 _known: set[str] = set()
 _lock = threading.Lock()
@@ -32,6 +34,33 @@ class Dump(NamedTuple):
 
     pieces: Iterable[bytes] | None = None
     file: BinaryIO | None = None
+
+
+class Unread(Exception):
+    """No one reads any more what is read of a source, since the program that it is for has ended."""
+
+
+class _Feeding(threading.local):
+    """The pipe to the program for which this thread reads a source, None if it is for none."""
+
+    pipe: IO[bytes] | None = None
+
+
+_feeding = _Feeding()
+
+
+def wait_for_bytes(file: int) -> None:
+    """Waits until a file has bytes, or its end. Once the program has ended for which they are read that is an `Unread`."""
+    waiting, pipe = select.poll(), _feeding.pipe
+    waiting.register(file, select.POLLIN)
+    if pipe:
+        waiting.register(pipe, select.POLLERR)
+    ready = waiting.poll(0)
+    if pipe and not ready:
+        with suppress(BrokenPipeError):  # It is found below.
+            pipe.flush()  # The program may need no more than it gets before others come.
+    if any(pipe and it == pipe.fileno() for it, _ in ready or waiting.poll()):
+        raise Unread
 
 
 class Group:
@@ -50,7 +79,7 @@ class Group:
             if self.is_ended:
                 raise self.error or ProgramError("not started: what it is for was ended")
             try:
-                process = subprocess.Popen([located(words[0]), *(it.encode() for it in words[1:])], **streams)
+                process = subprocess.Popen([words[0], *(it.encode() for it in words[1:])], **streams)
             except (OSError, TypeError, ValueError) as error:
                 raise _start_error(words[0], error) from error
             self._processes.add(process)
@@ -92,12 +121,21 @@ def _start_error(program: object, error: OSError | TypeError | ValueError) -> Bs
     return kind(f"cannot start {program}: {why(error)}")
 
 
+@contextmanager
+def _opening(program: object) -> Iterator[None]:
+    """Has an error of what is opened for a program say that it cannot be started."""
+    try:
+        yield
+    except OSError as error:
+        if isinstance(error, BsonfindError):
+            raise
+        raise _start_error(program, error) from error
+
+
 def file_in_memory(program: object) -> IO[bytes]:
     """A file in memory for a program, so that nothing is too long for a pipe, and no disk is too full for it."""
-    try:
+    with _opening(program):
         return open(os.memfd_create("bsonkit"), "w+b")
-    except OSError as error:
-        raise _start_error(program, error) from error
 
 
 class Run(AbstractContextManager["Run"]):
@@ -126,6 +164,8 @@ class Run(AbstractContextManager["Run"]):
         # The pipes to its standard input and from its standard output, where these are pipes.
         self.stdin: IO[bytes] = self.process.stdin  # type: ignore[assignment]
         self.stdout: io.BufferedReader = self.process.stdout  # type: ignore[assignment]
+        # Where nothing refers to the run any more it is closed. Its pipes would stay, and the program wait for their end.
+        self._forgotten = weakref.finalize(self, _free, self.process, self._stderr, self._owner)
         if pieces is not None:
             self._feed(pieces, self.stdin)
 
@@ -136,7 +176,7 @@ class Run(AbstractContextManager["Run"]):
     @classmethod
     def serving(cls, dump: Dump, program: str, options: Sequence[str], group: Group) -> Run:
         """A run of `serve`, whose commands come by standard input, and the dump by another descriptor. Ctrl-C does not reach it."""
-        with ExitStack() as ours:
+        with _opening(program), ExitStack() as ours:
             if dump.file is not None:
                 read = dump.file.fileno()
             else:
@@ -164,10 +204,11 @@ class Run(AbstractContextManager["Run"]):
 
     def _write(self, pieces: Iterable[bytes], pipe: IO[bytes]) -> None:
         """Writes all pieces, or as many as are read, and closes the pipe. After an error the program is killed before it sees an end."""
+        _feeding.pipe = pipe
         try:
             for piece in pieces:
                 pipe.write(piece)
-        except BrokenPipeError:
+        except (BrokenPipeError, Unread):
             pass  # The program reads no more, and its end says why.
         except Exception as error:  # noqa: BLE001 - it is raised where the run is waited for
             self._wrong = error
@@ -217,16 +258,23 @@ class Run(AbstractContextManager["Run"]):
         self._group.leave(self.process)
         if self._feeder:
             self._feeder.join(_PATIENCE)
-        for stream in filter(None, (self.stdin, self.stdout)):
-            close(stream)
-        self._stderr.close()
+        self._forgotten()
 
     def __exit__(self, *_: object) -> None:
         self.close()
 
 
+def _free(process: subprocess.Popen[bytes], stderr: IO[bytes], owner: int) -> None:
+    """Kills a program where it runs, and closes what was opened for it. In another process than its owner it does nothing."""
+    if os.getpid() == owner:
+        process.kill()
+        process.wait()
+        for stream in filter(None, (process.stdin, process.stdout, stderr)):
+            close(stream)
+
+
 def wide_program(program: object, group: Group | None = None) -> str:
-    """The program for all types that goes with a program; one that cannot be started or is of another version is refused, once."""
+    """The file of `bsonwide` for a program that is named; one that cannot be started or is of another version is refused, once."""
     wide = wide_beside(program)
     with _lock:
         if wide not in _known:
@@ -238,10 +286,16 @@ def wide_program(program: object, group: Group | None = None) -> str:
 def _refuse_other_version(wide: str, group: Group | None) -> None:
     from .. import __version__
 
+    late = ProgramError(f"{wide} did not print its version within {PATIENCE} seconds")
+    if wide in silent:
+        raise late
     with Run([wide, "--version"], group=group) as run:
-        told = run.stdout.read(_BUFFER).decode(errors="replace")
+        said = answer(run.stdout.fileno(), _BUFFER)
+        if said is None:
+            raise late
         if run.wait() or run.messages():
             raise run.error()
+    told = said.decode(errors="replace")
     found = _VERSION.fullmatch(told)
     if not found:
         raise ProgramError(f"{wide} is not bsonwide: it printed {told[:60]!r}")
