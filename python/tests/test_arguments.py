@@ -4,6 +4,7 @@ import asyncio
 import inspect
 import itertools
 import sys
+from array import array
 from functools import partial
 from types import MappingProxyType
 from typing import Any, Callable, Dict, Iterator, List, Tuple
@@ -35,32 +36,37 @@ from bsonfind import (
     unpack,
 )
 
+from bsonfind._arguments import shown
+
+from .bson import document, field, int32
 from .support import PEOPLE, PROGRAM, ROOT, Room
 
 CIRCULAR: Dict[str, Any] = {}
 CIRCULAR["again"] = CIRCULAR
 NAMES = [5, None, "a\0b", "\ud800"]
-NUMBERS = [-1, "1", 1.5, True, None, 1 << 63]
+# Python does not write the digits of the last one.
+MANY = 10**5000
+NUMBERS = [-1, "1", 1.5, True, None, 1 << 63, MANY, -MANY]
 # Values that no call takes, by the name of the parameter.
 BAD: Dict[str, List[Any]] = {
     **dict.fromkeys(("path", "good", "bad", "archive"), NAMES),
     "directory": [*NAMES, ""],
     **dict.fromkeys(("skip", "limit", "offset", "length", "first"), NUMBERS),
-    **dict.fromkeys(("page", "batch_size", "jobs"), [-1, "1", 1.5, 1 << 63]),
+    **dict.fromkeys(("page", "batch_size", "jobs"), [-1, "1", 1.5, 1 << 63, MANY]),
     **dict.fromkeys(("workers", "most"), [0, *NUMBERS]),
     **dict.fromkeys(("say", "progress", "map"), [5]),
     "max_faults": NUMBERS,
     "paths": [5, None, [], [5], "a\0b"],
     "expect": [5, "a\0b"],
-    "filter": ["name", 5, [("age", 1)], {"age": object()}, {"age": {1}}, {("age",): 1}, {None: 1}, {"age": {7: 1}}, CIRCULAR, {"age": "x" * (1 << 24)}],
-    "sort": ["name", b"name", 5, [5], [("age",)], ["name"], {"age": object()}],
-    "index": ["a\0b", "\ud800", ""],
-    "after": [5, "a\0b", "token"],
+    "filter": ["name", 5, [("age", 1)], {"age": object()}, {"age": {1}}, {("age",): 1}, {None: 1}, {"age": {7: 1}}, CIRCULAR, {"age": "x" * (1 << 24)}, {"age": MANY}, MANY],
+    "sort": ["name", [(b"age", 1)], [(5, 1)], [(None, 1)], {5: 1}, [("age", MANY)], [MANY], b"name", 5, [5], [("age",)], ["name"], {"age": object()}],
+    "index": ["a\0b", "\ud800", "\udcff", "", 5],
+    "after": [5, "a\0b", "\ud800", "token", "A" * 140_000],
     "decode": ["json", None, 5],
-    "program": [5, None, "a\0b"],
-    "timeout": [-1, "1", float("nan"), float("inf")],
+    "program": [5, None, "a\0b", ""],
+    "timeout": [-1, "1", float("nan"), float("inf"), MANY],
     "uuid_representation": [5, None, [], "unspecified", "STANDARD"],
-    "hint": [5, {}, [("age",)], ["age", "name"], {"age": 1, "name": 1}, {"$natural": -1}],
+    "hint": [5, {}, [("age",)], ["age", "name"], {"age": 1, "name": 1}, {"$natural": -1}, [(b"age", 1)], [("$natural", MANY)], MANY],
     "parts": [5, None, [5], "ab", Part(str(PEOPLE), 0, 5, 0)],
     **dict.fromkeys(("sparse", "with_crc"), [object(), "yes"]),
     "only": [5, "shop.orders", [], [5]],
@@ -123,7 +129,7 @@ class Refusals(Room):
                 bad = [object(), 5, ""] if name == "path" and function.__name__ in PATHS else BAD.get(name, [])
                 self.assertEqual(bool(bad), name not in FREE, name)
                 for value in bad:
-                    with self.subTest(f"{function.__qualname__}({name}={value!r:.50})"):
+                    with self.subTest(f"{function.__qualname__}({name}={shown(value):.50})"):
                         with self.assertRaises((ArgumentError, CommandError)) as raised:
                             call(**{name: value})
                         self.assertTrue(str(raised.exception))
@@ -155,6 +161,30 @@ class Refusals(Room):
         with self.assertRaises(ArgumentError):
             salvage(PEOPLE, self.room / "new", self.room / "new", program=PROGRAM)
         self.assertEqual(list(self.room.iterdir()), [])
+
+    def test_texts_that_no_argument_takes(self) -> None:
+        """The error names the argument, and never the program."""
+        for name in ("index", "after"):
+            for bad, told in (("a\0b", "no zero byte"), ("\ud800", "half of a character"), ("a\udcff", "half of a character"), ("a" * 140_000, "at most 13106")):
+                with self.assertRaisesRegex(ArgumentError, f"^{name} has {told}"):
+                    find(PEOPLE, program=PROGRAM, **{name: bad})
+        with self.assertRaisesRegex(ArgumentError, "^sort has at most 131071 bytes, not 140005$"):
+            list(find(PEOPLE, sort=[("a" * 139_999, 1)], program=PROGRAM))
+        with self.assertRaisesRegex(ArgumentError, "^skip is 0 to 2147483647, not of int with more digits than Python writes$"):
+            find(PEOPLE, skip=MANY, program=PROGRAM)
+        with self.assertRaisesRegex(ArgumentError, "^a whole number has at most 64 bits, not 16610$"):
+            find(PEOPLE, {"age": MANY}, program=PROGRAM)
+
+    def test_long_paths(self) -> None:
+        """The longest that an argument takes is a path as any other."""
+        path = "-" + "a" * 131_062
+        self.assertEqual(len(list(find(PEOPLE, index=path, program=PROGRAM))), 500)
+
+    def test_views_of_bytes(self) -> None:
+        """Also one whose bytes lie apart, or that is of numbers."""
+        path = self.file(b"".join(document(field(5, "b", int32(len(it)) + b"\0" + it)) for it in (b"ace", b"\1\0\2\0")))
+        for view, wanted in ((memoryview(b"abcdef")[::2], b"ace"), (memoryview(array("H", [1, 2])), b"\1\0\2\0")):
+            self.assertEqual([it["b"] for it in find(path, {"b": view}, program=PROGRAM)], [wanted])
 
     def test_mappings(self) -> None:
         """A filter and a sort are any mappings, also inside of others, as pymongo takes them."""

@@ -458,6 +458,21 @@ class Commands(Dumps):
         ):
             self.assertEqual(large(*words), (1, b"", f"bsonkit: {told}\n"))
 
+    def test_full_disk_of_what_parts_give(self) -> None:
+        """The directory is named, and the variable that gives another one."""
+        path = self.file(b"".join(PRICES * 3))
+        code = f"""
+import sys, tempfile
+import bsonfind._command.finding as it, bsonfind._command.program as its
+it.LARGEST_INPUT = its._LARGEST = it.MOST = 100
+it.temporary_file = lambda: open("/dev/full", "w+b", buffering=0)
+from bsonfind.__main__ import main
+sys.exit(main(["--program", {PROGRAM!r}, "find", {str(path)!r}]))
+"""
+        run = subprocess.run([sys.executable, "-c", code], env={**environment(), "TMPDIR": str(self.room)}, capture_output=True, text=True)
+        told = f"bsonkit: cannot write what is found in {self.room}: TMPDIR names another directory\n"
+        self.assertEqual((run.returncode, run.stdout, run.stderr), (1, "", told))
+
     def test_collection_of_an_archive(self) -> None:
         data = b"".join(GOODS)
         path = self.file(archive([("club", "people", PEOPLE.read_bytes()), ("shop", "goods", data)]), "all.archive")

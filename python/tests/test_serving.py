@@ -114,6 +114,19 @@ sys.exit(main())
         self.assertEqual(run.stderr, f"bsonkit: cannot write a copy of the dump in {room}: TMPDIR names another directory\n")
         self.assertEqual(list(room.iterdir()), [])
 
+    def test_no_directory_for_temporary_files(self) -> None:
+        """The variable is named that gives one."""
+        packed = str(self.file(gzip.compress(PEOPLE.read_bytes()), "people.bson.gz"))
+        code = f"""
+import sys, tempfile
+tempfile._candidate_tempdir_list = lambda: ["/nowhere"]
+from bsonfind.__main__ import main
+sys.exit(main(["--program", {PROGRAM!r}, "serve", {packed!r}]))
+"""
+        run = subprocess.run([sys.executable, "-c", code], env=environment(), capture_output=True, text=True, input="")
+        told = "bsonkit: cannot write a copy of the dump: no directory takes temporary files: TMPDIR names one\n"
+        self.assertEqual((run.returncode, run.stdout, run.stderr), (1, "", told))
+
     def test_interrupts(self) -> None:
         """While a pipe is read: nothing is left."""
         pipe, room = self.room / "pipe", self.room / "tmp"

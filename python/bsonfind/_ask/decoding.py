@@ -6,6 +6,7 @@ import json
 from functools import partial
 from typing import Any, Callable, Generic, Literal, TypeVar, Union
 
+from .._arguments import shown
 from .._errors import ArgumentError
 from .replies import document_at, documents_in, junk
 from .values import Uuids, plain_document, uuids_of
@@ -52,7 +53,7 @@ class Decoding:
         elif decode in ("bytes", "bson"):
             self.document_of = bytes
         else:
-            raise ArgumentError(f'decode is "plain", "canonical", "pymongo", "json_util", "bytes", "bson" or a function, not {decode!r}')
+            raise ArgumentError(f'decode is "plain", "canonical", "pymongo", "json_util", "bytes", "bson" or a function, not {shown(decode)}')
 
     def _of_json(self, line: bytes) -> Any:
         """The document of a line; of what is none the program is no bsonfind."""

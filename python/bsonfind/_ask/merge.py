@@ -17,7 +17,7 @@ from contextlib import ExitStack
 from functools import partial
 from typing import Any, Callable, Iterable, Iterator, NamedTuple, Sequence, TypeVar, overload
 
-from .._arguments import seconds, whole
+from .._arguments import seconds, shown, whole
 from .._dumps.parts import Part, PartError
 from .._dumps.runs import checking, faults_of, finish_check
 from .._errors import ArgumentError, BsonfindError, DumpError, ProgramError
@@ -44,24 +44,24 @@ class Check(NamedTuple):
 def find_parts(
     parts: Sequence[Part], filter: Filter | None = None, *, sort: Sort | None = None, skip: int = 0, limit: int = 0,
     workers: int = 1, map: Map | None = None, decode: Dicts = "plain", uuid_representation: Uuids = "standard",
-    program: str = "bsonfind", timeout: float | None = None,
+    program: str = "bsonwide", timeout: float | None = None,
 ) -> list[dict[str, Any]]: ...
 @overload
 def find_parts(
     parts: Sequence[Part], filter: Filter | None = None, *, sort: Sort | None = None, skip: int = 0, limit: int = 0,
     workers: int = 1, map: Map | None = None, decode: Raw, uuid_representation: Uuids = "standard",
-    program: str = "bsonfind", timeout: float | None = None,
+    program: str = "bsonwide", timeout: float | None = None,
 ) -> list[bytes]: ...
 @overload
 def find_parts(
     parts: Sequence[Part], filter: Filter | None = None, *, sort: Sort | None = None, skip: int = 0, limit: int = 0,
     workers: int = 1, map: Map | None = None, decode: Callable[[bytes], T], uuid_representation: Uuids = "standard",
-    program: str = "bsonfind", timeout: float | None = None,
+    program: str = "bsonwide", timeout: float | None = None,
 ) -> list[T]: ...
 def find_parts(
     parts: Sequence[Part], filter: Filter | None = None, *, sort: Sort | None = None, skip: int = 0, limit: int = 0,
     workers: int = 1, map: Map | None = None, decode: Decode[Any] = "plain", uuid_representation: Uuids = "standard",
-    program: str = "bsonfind", timeout: float | None = None,
+    program: str = "bsonwide", timeout: float | None = None,
 ) -> list[Any]:
     # fmt: on
     """The documents that `find` gives over the parts joined, in its order.
@@ -86,7 +86,7 @@ def count_parts(
     workers: int = 1,
     map: Map | None = None,
     uuid_representation: Uuids = "standard",
-    program: str = "bsonfind",
+    program: str = "bsonwide",
     timeout: float | None = None,
 ) -> int:
     """How many documents of the parts match a filter."""
@@ -98,7 +98,7 @@ def count_parts(
 
 
 def check_parts(
-    parts: Sequence[Part], *, workers: int = 1, map: Map | None = None, program: str = "bsonfind", timeout: float | None = None
+    parts: Sequence[Part], *, workers: int = 1, map: Map | None = None, program: str = "bsonwide", timeout: float | None = None
 ) -> Check:
     """Checks each document of the parts. Numbers of documents and bytes of faults are those of the whole file."""
     with _Asking(program, workers, map, timeout) as asking:
@@ -114,7 +114,7 @@ class _Asking(ExitStack):
         super().__init__()
         self._program, self._workers, self._map = program, whole("workers", workers, 1), map
         if not (map is None or callable(map)):
-            raise ArgumentError(f"map is a function, not {map!r}")
+            raise ArgumentError(f"map is a function, not {shown(map)}")
         if map and workers != 1:
             raise ArgumentError("workers and map both say how the parts are run: give one of them")
         self.group = Group()

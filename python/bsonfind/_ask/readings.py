@@ -17,6 +17,8 @@ from .requests import Request, Use, text_of
 T = TypeVar("T")
 # How many bytes of documents a cursor holds at most, unless a single document has more.
 MOST_BYTES = 1 << 24
+# How many documents are asked for at once where no number is given.
+_BATCH = 100
 # How many documents are asked for at most while their lengths are not known.
 FIRST_BATCH = 1000
 # What the program says if no more cursors can be open.
@@ -36,7 +38,7 @@ class Reading(Generic[T]):
 
     def __init__(self, request: Request, use: Use, batch_size: int, after: str | None, decoding: Decoding) -> None:
         self._request, self._use, self._decoding = request, use, decoding
-        self._batch_size = whole("batch_size", batch_size, 1)
+        self._batch_size = whole("batch_size", batch_size) or _BATCH
         self._size = min(self._batch_size, FIRST_BATCH)
         # By what it is asked, once that is known, and the number of the cursor there, where one is open.
         self._connection: Connection | None = None

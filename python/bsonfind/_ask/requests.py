@@ -8,7 +8,7 @@ from contextlib import suppress
 from functools import partial
 from typing import Any, Iterable, Mapping, NamedTuple, Sequence, Union
 
-from .._arguments import MOST, whole
+from .._arguments import LONGEST_ARGUMENT, MOST, argument, shown, whole
 from .._errors import ArgumentError
 from .values import Uuids, extended, uuids_of
 
@@ -19,8 +19,8 @@ Use = Union[str, Mapping[str, str]]
 # The same as pymongo has it: the path of an index, by itself or with a direction; or {"$natural": 1} to read each document.
 Hint = Union[str, Mapping[str, Any], Sequence["tuple[str, Any]"]]
 
-# Linux takes arguments of fewer than 131,072 bytes.
-LONGEST_ARGUMENT = 131_071
+# A whole number with more of them is refused here: Python does not write it.
+_MOST_BITS = 1000
 # What the program takes of a filter in a file.
 LONGEST_FILTER = 16_777_216
 # A longer text is an argument after its option.
@@ -32,10 +32,12 @@ def _written(value: Any) -> Any:
     if isinstance(value, Mapping):
         for name in value:
             if not isinstance(name, str):
-                raise TypeError(f"the name of a field is a text, not {name!r}")
+                raise TypeError(f"the name of a field is a text, not {shown(name)}")
         return {name: _written(it) for name, it in value.items()}
     if isinstance(value, (list, tuple)):
         return [_written(it) for it in value]
+    if isinstance(value, int) and value.bit_length() > _MOST_BITS:
+        raise ValueError(f"a whole number has at most 64 bits, not {value.bit_length()}")
     if isinstance(value, float) and not math.isfinite(value):
         return {"$numberDouble": "NaN" if math.isnan(value) else "Infinity" if value > 0 else "-Infinity"}
     if isinstance(value, str) and hasattr(value, "scope"):
@@ -59,9 +61,10 @@ def text_of_pairs(pairs: Iterable[tuple[str, str]]) -> str:
 def _pairs_of(sort: Sort | None) -> list[tuple[str, int]]:
     with suppress(TypeError, ValueError):  # They are no pairs.
         if not isinstance(sort, (str, bytes)):
-            pairs = sort.items() if isinstance(sort, Mapping) else () if sort is None else sort
-            return [(path, way) for path, way in pairs]
-    raise ArgumentError(f'sort is [("age", -1), ..] or {{"age": -1, ..}}, not {sort!r}')
+            pairs = [(path, way) for path, way in (sort.items() if isinstance(sort, Mapping) else () if sort is None else sort)]
+            if all(isinstance(path, str) for path, _ in pairs):
+                return pairs
+    raise ArgumentError(f'sort is [("age", -1), ..] or {{"age": -1, ..}}, not {shown(sort)}')
 
 
 def use_of(hint: Hint | None) -> Use:
@@ -73,7 +76,9 @@ def use_of(hint: Hint | None) -> Use:
     try:
         ((path, way),) = hint.items() if isinstance(hint, Mapping) else hint
     except (TypeError, ValueError):
-        raise ArgumentError(f'hint is a path, [(PATH, 1)] or {{"$natural": 1}}, not {hint!r}: an index is on one path') from None
+        raise ArgumentError(f'hint is a path, [(PATH, 1)] or {{"$natural": 1}}, not {shown(hint)}: an index is on one path') from None
+    if not isinstance(path, str):
+        raise ArgumentError(f"the path of a hint is a text, not {shown(path)}")
     if path != "$natural":
         return {"index": path}
     if way != 1:
@@ -95,7 +100,7 @@ class Request(NamedTuple):
     ) -> Request:
         """The request for what pymongo's `Collection.find` is asked by."""
         if not (filter is None or isinstance(filter, Mapping)):
-            raise ArgumentError(f'filter is a mapping such as {{"age": 7}}, not {filter!r}')
+            raise ArgumentError(f'filter is a mapping such as {{"age": 7}}, not {shown(filter)}')
         sort_text = text_of_pairs((path, text_of(way)) for path, way in _pairs_of(sort))
         filter_text = text_of({} if filter is None else filter, uuids_of(uuids))
         return cls(filter_text, sort_text, whole("skip", skip), whole("limit", limit))
@@ -113,7 +118,7 @@ class Request(NamedTuple):
     def words(self, file: str | None = None) -> list[str]:
         """The options of `find`, with the file of the filter, if it is in one."""
         query = option("--query", self.filter) if file is None else [f"--queryFile={file}"]
-        return [*query, *option("--sort", self.sort), f"--skip={self.skip}", f"--limit={self.limit}"]
+        return [*query, *option("--sort", argument("sort", self.sort)), f"--skip={self.skip}", f"--limit={self.limit}"]
 
     def fields(self) -> list[tuple[str, str]]:
         """The further fields of a command, with the texts of their values."""

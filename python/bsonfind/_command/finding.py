@@ -11,10 +11,11 @@ from typing import Sequence
 from .._ask.lines import counted, finding
 from .._ask.requests import Request
 from .._dumps.framing import LARGEST_INPUT
-from .._dumps.originals import temporary_file
+from .._dumps.originals import in_temporary, temporary_file
 from .._dumps.parts import MOST
 from .._dumps.sources import Source
-from .._errors import DumpError
+from .._errors import DumpError, ProgramError
+from .._run.messages import CANNOT_WRITE
 from .._run.processes import Dump, Run
 from .console import Console
 
@@ -66,6 +67,10 @@ class Finding:
                         counted(run)
                     except DumpError as error:
                         raise error.moved(part.first, part.offset) from None
+                    except ProgramError as error:
+                        if str(error) != CANNOT_WRITE:
+                            raise
+                        raise ProgramError(f"cannot write what is found{in_temporary()}") from error
             if os.fstat(found.fileno()).st_size > LARGEST_INPUT:
                 raise DumpError(f"{name}, and so do the documents that are found: ask for fewer")
             found.seek(0)

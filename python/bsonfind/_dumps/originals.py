@@ -96,10 +96,18 @@ def temporary_file() -> BinaryIO:
         signal.pthread_sigmask(signal.SIG_SETMASK, waiting)
 
 
+def in_temporary() -> str:
+    """Where files without a name are, and what says so."""
+    try:
+        return f" in {tempfile.gettempdir()}: TMPDIR names another directory"
+    except OSError:
+        return ": no directory takes temporary files: TMPDIR names one"
+
+
 @contextmanager
 def _writing() -> Iterator[None]:
     """Has a file without a name that cannot be written say where it would be."""
     try:
         yield
     except OSError as error:
-        raise ProgramError(f"cannot write a copy of the dump in {tempfile.gettempdir()}: TMPDIR names another directory") from error
+        raise ProgramError(f"cannot write a copy of the dump{in_temporary()}") from error

@@ -21,6 +21,8 @@ _WORDS = {
 }  # fmt: skip
 _SESSION = {"not a sort": 1, "not a token": 7, "token of another dump or request": 8, "token place past the dump": 9}
 _REFUSAL = re.compile(r'(query|sort|index|token): (?:byte (\d+): |place (".*"): )?(.+)')
+# What the program says where its output takes no more.
+CANNOT_WRITE = "cannot write"
 _OF_THE_DUMP = ("cannot open", "cannot read", "input too long", "too many reads")
 
 
