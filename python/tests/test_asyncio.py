@@ -46,6 +46,16 @@ class AsyncSessions(Room, unittest.IsolatedAsyncioTestCase):
             await session.drop_index("age")
             self.assertEqual((await session.explain(OLD))["plan"], "scan")
 
+    async def test_tasks_that_open_one_session(self) -> None:
+        """They start one program, and none is left."""
+        session = AsyncSession(PEOPLE, self.counting())
+        self.assertEqual(await asyncio.gather(session.open(), session.open(), session.open()), [session] * 3)
+        self.assertEqual(await session.count_documents(), 500)
+        await session.close()
+        self.assertEqual([it.split()[:2] for it in self.starts()].count(["bsonwide", "serve"]), 1)
+        with self.assertRaises(SessionEndedError):
+            await session.open()
+
     async def test_plain_values(self) -> None:
         async with AsyncSession(SHOP, PROGRAM) as session:
             found = await session.find_one(decode="plain")

@@ -23,6 +23,8 @@ READERS = {
 # Each place that calls one of them, and what it does with what was printed. None of them decides what is a fault, or what matches.
 PLACES = {
     "_ask/answers.Answer.__init__": "passes lines or documents on",
+    "_ask/answers.distinct": "takes the values of documents that match",
+    "_ask/distinct.Distinct.values": "reads the texts of values",
     "_ask/connections.Connection.fields": "reads a reply",
     "_ask/decoding.Decoding.batch": "cuts a batch into its documents",
     "_ask/decoding.Parsed.give": "reads a document",
@@ -76,7 +78,7 @@ PLACES = {
 ORDERING = {"sorted", "sort", "sum", "Counter", "most_common", "merge"}
 # Where what was printed, or the bytes of a dump, are compared, put in order or counted, and why that decides no answer of a query.
 DECIDES = {
-    "_ask/values.Distinct.add": "takes each value of a field once; which documents match is the program's answer",
+    "_ask/distinct.Distinct.add": "takes each value of a field once; which documents match is the program's answer",
     "_ask/merge.count_parts": "adds up the counts of parts that have no document in common",
     "_ask/merge.check_parts": "the same of faults",
     "_backup/audit._Checker._check_documents": "counts the faults of each kind",

@@ -12,6 +12,7 @@ import subprocess
 import sys
 import threading
 from datetime import datetime, timedelta, timezone
+from decimal import Decimal
 from uuid import UUID
 
 import bsonfind
@@ -30,6 +31,7 @@ from bsonfind import (
     find_parts,
     plan,
 )
+from bsonfind._ask.values import plain_document
 
 from .bson import document, field, int32, text
 from .support import DAMAGED, PATIENCE, PEOPLE, PEOPLE_LINES, PROGRAM, SHOP, SHOP_LINES, Room, environment
@@ -149,7 +151,7 @@ class Pipes(Room):
 
 class Loader(Room):
     def test_lines_of_the_loader(self) -> None:
-        """A line before the program's own on standard error changes nothing."""
+        """Lines before the program's own on standard error, and after it, change nothing."""
         code = f"""
 import bsonfind
 people, program = {str(PEOPLE)!r}, {PROGRAM!r}
@@ -164,10 +166,11 @@ for ask in (lambda: bsonfind.Session("missing.bson", program), lambda: list(bson
     except bsonfind.BsonfindError as error:
         print(repr(error))
 """
-        env = {**environment(), "LD_PRELOAD": str(self.room / "missing.so")}
-        ran = subprocess.run([sys.executable, "-c", code], env=env, capture_output=True, text=True, timeout=PATIENCE)
         wanted = "500 True\n500 500\n500 500\nDumpError('cannot open missing.bson', None)\n"
-        self.assertEqual(ran.stdout, wanted + "CommandError('filter', 1, 'unknown operator', '$a')\n", ran.stderr)
+        for name, value in (("LD_PRELOAD", str(self.room / "missing.so")), ("LD_DEBUG", "statistics"), ("LD_DEBUG", "files,libs")):
+            env = {**environment(), name: value}
+            ran = subprocess.run([sys.executable, "-c", code], env=env, capture_output=True, text=True, timeout=PATIENCE)
+            self.assertEqual(ran.stdout, wanted + "CommandError('filter', 1, 'unknown operator', '$a')\n", ran.stderr)
 
 
 class LongFilters(Room):
@@ -313,7 +316,8 @@ class Pymongo(Room):
             self.assertEqual((list(answer), answer.end), (OLD_LINES, True))
         page = find(PEOPLE, OLD, page=5, batch_size=2, decode="bytes", program=PROGRAM)
         self.assertEqual((list(page), page.end), (OLD_LINES[:5], False))
-        self.assertEqual(list(self.session.find(OLD, batch_size=5, decode="bytes")), OLD_LINES)
+        for size in (0, 5):
+            self.assertEqual(list(self.session.find(OLD, batch_size=size, decode="bytes")), OLD_LINES)
 
     def test_errors_end_in_error(self) -> None:
         members = [getattr(bsonfind, name) for name in bsonfind.__all__]
@@ -484,6 +488,22 @@ class Decoding(Room):
         """The document of a dump itself is never a value."""
         path = self.file(document(field(2, "$numberInt", text("5"))))
         self.assertEqual(find_one(path, decode="plain", program=PROGRAM), {"$numberInt": "5"})
+
+    def test_documents_that_dump_prints_for_no_value(self) -> None:
+        """A text that no value has is a document of the dump, and stays one; the texts at both ends of a type are values."""
+        for name, inner in (
+            ("$numberInt", "3000000000"), ("$numberInt", "-2147483649"), ("$numberInt", "-0"), ("$numberLong", "-0"), ("$numberInt", "9" * 5000),
+            ("$numberLong", str(1 << 63)), ("$numberLong", str(-(1 << 63) - 1)), ("$numberLong", str(1 << 64)), ("$numberDouble", "5"),
+            ("$numberDouble", "1E5"), ("$numberDouble", "05.0"), ("$numberDouble", "1e+20"), ("$numberDecimal", "05"), ("$oid", "07"),
+            ("$oid", "07BD617E2DA5422A3C4466C9"), ("$date", {"$numberLong": "-0"}), ("$date", {"$numberLong": str(1 << 64)}), ("$date", "2025-01-01T00:00:00Z"),
+        ):  # fmt: skip
+            self.assertEqual(plain_document({"a": {name: inner}}), {"a": {name: inner}})
+        for name, inner, wanted in (
+            ("$numberInt", "-2147483648", -(1 << 31)), ("$numberInt", "2147483647", (1 << 31) - 1), ("$numberLong", str(-(1 << 63)), -(1 << 63)),
+            ("$numberLong", str((1 << 63) - 1), (1 << 63) - 1), ("$numberDouble", "1E+20", 1e20), ("$numberDouble", "5E-324", 5e-324),
+            ("$numberDecimal", "0E+3", Decimal("0E+3")), ("$numberDecimal", "-0", Decimal("-0")), ("$oid", "07bd617e2da5422a3c4466c9", ObjectId("07bd617e2da5422a3c4466c9")),
+        ):  # fmt: skip
+            self.assertEqual(plain_document({"a": {name: inner}}), {"a": wanted})
 
     def test_ids(self) -> None:
         one, other = ObjectId("0AF98b87145f708ed341a680"), ObjectId("0af98b87145f708ed341a681")

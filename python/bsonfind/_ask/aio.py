@@ -12,11 +12,12 @@ from .._arguments import File, name_of_file, seconds
 from .._errors import CancelledError, SessionEndedError
 from .._run.processes import Group, check_owner
 from .decoding import Decode, Decoding, Dicts, Raw
+from .distinct import Distinct
 from .plans import PIECE, Plan
 from .questions import Questions
 from .readings import Reading
 from .requests import Filter, Hint, Request, Sort, use_of
-from .values import Distinct, Uuids, Values, uuids_of
+from .values import Uuids, Values, uuids_of
 
 T = TypeVar("T")
 
@@ -30,7 +31,7 @@ class AsyncSession:
     """
 
     def __init__(
-        self, path: File, program: str = "bsonfind", *, timeout: float | None = None, uuid_representation: Uuids = "standard"
+        self, path: File, program: str = "bsonwide", *, timeout: float | None = None, uuid_representation: Uuids = "standard"
     ) -> None:
         self._uuids, self._owner = uuids_of(uuid_representation), os.getpid()
         self._group, self._loop = Group(), Loop()
@@ -39,16 +40,17 @@ class AsyncSession:
         self._questions: Questions | None = None
 
     async def open(self) -> AsyncSession:
-        """Starts the program, and waits until the dump is read."""
+        """Starts the program, and waits until the dump is read. Of several tasks one does so, and the others wait for it."""
         self._check()
-        if self._questions is None or self._group.is_ended:
+        async with self._loop.opening:
             if self._group.is_ended:
                 raise SessionEndedError(str(self._group.error))
-            try:
-                self._questions = await self._loop.work(self._opened)
-            except BaseException:
-                self._group.end(SessionEndedError("the dump was not read"))
-                raise
+            if self._questions is None:
+                try:
+                    self._questions = await self._loop.work(self._opened)
+                except BaseException:
+                    self._group.end(SessionEndedError("the dump was not read"))
+                    raise
         return self
 
     def _opened(self) -> Questions:
@@ -131,9 +133,9 @@ class AsyncSession:
         """The values of a field in the documents that match, each once: of an array each element, and numbers by their values."""
         distinct = Distinct(key, decode, self._uuids)
         with self._group.within(self._timeout):
-            async for document in self.find(filter, decode="canonical"):
+            async for document in self.find(filter, decode="bson"):
                 distinct.add(document)
-        return distinct.values()
+        return await self._do(lambda it: it.call(distinct.values))
 
     async def create_index(self, path: str, sparse: bool = False) -> dict[str, Any]:
         """Makes an index on a path: how many `entries` it has, and whether a document has more than one (`multikey`)."""
@@ -216,6 +218,7 @@ class Loop:
 
     def __init__(self) -> None:
         self._lock: asyncio.Lock | None = None
+        self._opening: asyncio.Lock | None = None
 
     async def do(self, plan: Plan[T]) -> T:
         """Carries a plan out. It is closed where the task is cancelled."""
@@ -239,6 +242,12 @@ class Loop:
         """What keeps others from a program meanwhile. It is made once there is an event loop."""
         self._lock = self._lock or asyncio.Lock()
         return self._lock
+
+    @property
+    def opening(self) -> asyncio.Lock:
+        """What has one task open the session. It is another lock, since `close` ends a session that is being opened."""
+        self._opening = self._opening or asyncio.Lock()
+        return self._opening
 
     async def alone(self, _: threading.Lock, plan: Plan[T]) -> T:
         async with self.lock:

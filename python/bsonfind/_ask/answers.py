@@ -6,15 +6,16 @@ import os
 from contextlib import AbstractContextManager
 from typing import Any, Callable, Iterator, TypeVar, overload
 
-from .._arguments import File, name_of, seconds, whole
-from .._errors import ArgumentError, CancelledError, CursorStateError
+from .._arguments import LONGEST_ARGUMENT, File, argument, name_of, seconds, whole
+from .._errors import CancelledError, CursorStateError
 from .._run.processes import Group, check_owner
 from .decoding import Decode, Decoding, Dicts, Raw, Texts
+from .distinct import Distinct
 from .lines import Lines
 from .plans import now
 from .questions import Questions
 from .requests import Filter, Request, Sort
-from .values import Distinct, Uuids, Values
+from .values import Uuids, Values
 
 T = TypeVar("T")
 
@@ -78,24 +79,24 @@ class Answer(Iterator[T], AbstractContextManager["Answer[T]"]):
 def find(
     path: File, filter: Filter | None = None, *, sort: Sort | None = None, skip: int = 0, limit: int = 0,
     page: int | None = None, batch_size: int = 0, index: str | None = None, after: str | None = None, decode: Dicts = "plain",
-    uuid_representation: Uuids = "standard", program: str = "bsonfind", timeout: float | None = None,
+    uuid_representation: Uuids = "standard", program: str = "bsonwide", timeout: float | None = None,
 ) -> Answer[dict[str, Any]]: ...
 @overload
 def find(
     path: File, filter: Filter | None = None, *, sort: Sort | None = None, skip: int = 0, limit: int = 0,
     page: int | None = None, batch_size: int = 0, index: str | None = None, after: str | None = None, decode: Raw,
-    uuid_representation: Uuids = "standard", program: str = "bsonfind", timeout: float | None = None,
+    uuid_representation: Uuids = "standard", program: str = "bsonwide", timeout: float | None = None,
 ) -> Answer[bytes]: ...
 @overload
 def find(
     path: File, filter: Filter | None = None, *, sort: Sort | None = None, skip: int = 0, limit: int = 0,
     page: int | None = None, batch_size: int = 0, index: str | None = None, after: str | None = None, decode: Callable[[bytes], T],
-    uuid_representation: Uuids = "standard", program: str = "bsonfind", timeout: float | None = None,
+    uuid_representation: Uuids = "standard", program: str = "bsonwide", timeout: float | None = None,
 ) -> Answer[T]: ...
 def find(
     path: File, filter: Filter | None = None, *, sort: Sort | None = None, skip: int = 0, limit: int = 0, page: int | None = None,
     batch_size: int = 0, index: str | None = None, after: str | None = None, decode: Decode[Any] = "plain",
-    uuid_representation: Uuids = "standard", program: str = "bsonfind", timeout: float | None = None,
+    uuid_representation: Uuids = "standard", program: str = "bsonwide", timeout: float | None = None,
 ) -> Answer[Any]:
     # fmt: on
     """Finds documents of a dump by one run of the program, which begins with the first document that is asked for.
@@ -109,6 +110,9 @@ def find(
     whole("batch_size", batch_size)
     size = None if page is None else whole("page", page)
     decoding = Decoding(decode, uuid_representation)
+    for name, text in (("index", index), ("after", after)):
+        if text is not None:
+            argument(name, text, LONGEST_ARGUMENT - len(f"--{name}="))
     return Answer(Lines(name_of(path), request, program, decoding.is_of_bytes, size, index, after, timeout=seconds(timeout)), decoding)
 
 
@@ -116,21 +120,21 @@ def find(
 @overload
 def find_one(
     path: File, filter: Filter | None = None, *, sort: Sort | None = None, skip: int = 0, decode: Dicts = "plain",
-    uuid_representation: Uuids = "standard", program: str = "bsonfind", timeout: float | None = None,
+    uuid_representation: Uuids = "standard", program: str = "bsonwide", timeout: float | None = None,
 ) -> dict[str, Any] | None: ...
 @overload
 def find_one(
     path: File, filter: Filter | None = None, *, sort: Sort | None = None, skip: int = 0, decode: Raw,
-    uuid_representation: Uuids = "standard", program: str = "bsonfind", timeout: float | None = None,
+    uuid_representation: Uuids = "standard", program: str = "bsonwide", timeout: float | None = None,
 ) -> bytes | None: ...
 @overload
 def find_one(
     path: File, filter: Filter | None = None, *, sort: Sort | None = None, skip: int = 0, decode: Callable[[bytes], T],
-    uuid_representation: Uuids = "standard", program: str = "bsonfind", timeout: float | None = None,
+    uuid_representation: Uuids = "standard", program: str = "bsonwide", timeout: float | None = None,
 ) -> T | None: ...
 def find_one(
     path: File, filter: Filter | None = None, *, sort: Sort | None = None, skip: int = 0, decode: Decode[Any] = "plain",
-    uuid_representation: Uuids = "standard", program: str = "bsonfind", timeout: float | None = None,
+    uuid_representation: Uuids = "standard", program: str = "bsonwide", timeout: float | None = None,
 ) -> Any:
     # fmt: on
     """The first document of an answer, None if it has none."""
@@ -144,7 +148,7 @@ def count_documents(
     filter: Filter | None = None,
     *,
     uuid_representation: Uuids = "standard",
-    program: str = "bsonfind",
+    program: str = "bsonwide",
     timeout: float | None = None,
 ) -> int:
     """How many documents of a dump match."""
@@ -159,15 +163,17 @@ def distinct(
     *,
     decode: Values = "plain",
     uuid_representation: Uuids = "standard",
-    program: str = "bsonfind",
+    program: str = "bsonwide",
     timeout: float | None = None,
 ) -> list[Any]:
     """The values of a field in the documents of a dump that match, each once: of an array each element, and numbers by their values."""
-    found = Distinct(key, decode, uuid_representation)
-    with find(path, filter, decode="canonical", uuid_representation=uuid_representation, program=program, timeout=timeout) as answer:
-        for document in answer:
-            found.add(document)
-    return found.values()
+    found, group = Distinct(key, decode, uuid_representation), Group()
+    lines = Lines(name_of(path), Request.of(filter, uuids=uuid_representation), program, is_bson=True, group=group)
+    with group.within(seconds(timeout)):
+        for documents in lines.batches():
+            for document in documents:
+                found.add(document)
+        return found.values(program, group)
 
 
 def explain(
@@ -179,13 +185,13 @@ def explain(
     limit: int = 0,
     index: str | None = None,
     uuid_representation: Uuids = "standard",
-    program: str = "bsonfind",
+    program: str = "bsonwide",
     timeout: float | None = None,
 ) -> dict[str, Any]:
     """How `find` finds its answer, as `Session.explain` says it; `index` makes an index on a path first."""
     request, group = Request.of(filter, sort, skip, limit, uuid_representation), Group()
-    if isinstance(index, str) and "\0" in index:
-        raise ArgumentError(f"a path has no zero byte: {index!r}")
+    if index is not None:
+        argument("index", index)
     with group.within(seconds(timeout)), Questions(path, program, group) as questions:
         if index is not None:
             now(questions.create_index(index, False))

@@ -55,7 +55,7 @@ class Questions(AbstractContextManager["Questions"]):
         return connection
 
     def _connect(self, dump: Dump, options: Sequence[str] = ()) -> Connection:
-        return Connection(dump, self._program, self._group, self._source.check, options)
+        return Connection(dump, self._program, self._group, self._source.check_name, options)
 
     def check(self) -> None:
         """Refuses a call in another process than the one that opened the session."""
@@ -121,6 +121,12 @@ class Questions(AbstractContextManager["Questions"]):
     def count(self, request: Request) -> Plan[int]:
         matches: int = (yield from self.explain(request, "auto"))["matches"]
         return matches
+
+    def call(self, ask: Callable[[str, Group], T]) -> Plan[T]:
+        """What something gives that starts the program by itself, in the group of the session."""
+        self.check()
+        given: T = yield lambda it: it.work(lambda: ask(self._program, self._group))
+        return given
 
     def close(self) -> None:
         """Ends all connections, and what is read for them meanwhile."""

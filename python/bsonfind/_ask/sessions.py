@@ -10,11 +10,12 @@ from .._arguments import File, seconds
 from .._errors import CancelledError, SessionEndedError
 from .._run.processes import Group, check_owner
 from .decoding import Decode, Decoding, Dicts, Raw
+from .distinct import Distinct
 from .plans import Plan, now
 from .questions import Questions
 from .readings import Reading
 from .requests import Filter, Hint, Request, Sort, use_of
-from .values import Distinct, Uuids, Values, uuids_of
+from .values import Uuids, Values, uuids_of
 
 T = TypeVar("T")
 Result = TypeVar("Result")
@@ -31,7 +32,7 @@ class Session(AbstractContextManager["Session"]):
     """
 
     def __init__(
-        self, path: File, program: str = "bsonfind", *, timeout: float | None = None, uuid_representation: Uuids = "standard"
+        self, path: File, program: str = "bsonwide", *, timeout: float | None = None, uuid_representation: Uuids = "standard"
     ) -> None:
         """Opens a dump. UUIDs are those of `find`."""
         self._uuids, self._timeout, self._group = uuids_of(uuid_representation), seconds(timeout), Group()
@@ -103,9 +104,9 @@ class Session(AbstractContextManager["Session"]):
         """The values of a field in the documents that match, each once: of an array each element, and numbers by their values."""
         distinct = Distinct(key, decode, self._uuids)
         with self._group.within(self._timeout):
-            for document in self.find(filter, decode="canonical"):
+            for document in self.find(filter, decode="bson"):
                 distinct.add(document)
-        return distinct.values()
+            return now(self._questions.call(distinct.values))
 
     def create_index(self, path: str, sparse: bool = False) -> dict[str, Any]:
         """Makes an index on a path: how many `entries` it has, and whether a document has more than one (`multikey`)."""

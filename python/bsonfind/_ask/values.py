@@ -1,4 +1,4 @@
-"""Plain values of Python for values of Extended JSON, and the other way; and the values of a field, each once."""
+"""Plain values of Python for values of Extended JSON, and the other way."""
 
 from __future__ import annotations
 
@@ -6,16 +6,19 @@ import base64
 import re
 from datetime import datetime, timedelta, timezone
 from decimal import Decimal
-from typing import Any, Callable, Iterator, Literal, Mapping, Sequence
+from typing import Any, Callable, Literal, Mapping
 from uuid import UUID
 
+from .._arguments import shown
 from .._errors import ArgumentError
 
 _EPOCH = datetime(1970, 1, 1, tzinfo=timezone.utc)
 _HEX = re.compile("[0-9a-f]{24}")
 # The texts of numbers as the program prints them. Python reads others too, such as "1_000", which a document of a dump may have.
-_WHOLE = re.compile("-?(?:0|[1-9][0-9]*)")
-_DOUBLE = re.compile(r"-?[0-9]+(?:\.[0-9]+)?(?:E[+-]?[0-9]+)?|NaN|-?Infinity")
+_WHOLE = re.compile("0|-?[1-9][0-9]*")
+_DOUBLE = re.compile(r"-?(?:0|[1-9][0-9]*)\.[0-9]+|-?[1-9](?:\.[0-9]+)?E[+-][0-9]{2,3}|NaN|-?Infinity")
+_DECIMAL = re.compile(r"-?(?:0|[1-9][0-9]*)(?:\.[0-9]+)?(?:E[+-][0-9]+)?|NaN|-?Infinity")
+_INT32, _INT64 = range(-(1 << 31), 1 << 31), range(-(1 << 63), 1 << 63)
 _BASE64 = re.compile("[0-9A-Za-z+/]*={0,2}")
 # The names that begin an object which means another value.
 WRAPPERS = (
@@ -42,7 +45,7 @@ class ObjectId:
 
     def __init__(self, digits: str) -> None:
         if not isinstance(digits, str) or not _HEX.fullmatch(digits.lower()):
-            raise ArgumentError(f"an id has 24 hexadecimal digits, not {digits!r}")
+            raise ArgumentError(f"an id has 24 hexadecimal digits, not {shown(digits)}")
         self._digits = digits.lower()
 
     def __str__(self) -> str:
@@ -66,7 +69,7 @@ class ObjectId:
 def uuids_of(name: Uuids) -> Uuids:
     """A name of `uuid_representation`; others are an `ArgumentError`."""
     if not isinstance(name, str) or name not in _ORDERS:
-        raise ArgumentError(f"uuid_representation is one of {', '.join(_ORDERS)}, not {name!r}")
+        raise ArgumentError(f"uuid_representation is one of {', '.join(_ORDERS)}, not {shown(name)}")
     return name
 
 
@@ -75,7 +78,7 @@ def plain_document(document: dict[str, Any], uuids: Uuids = "standard") -> dict[
 
     Whole numbers become `int`, doubles `float`, decimal128 a `Decimal`, dates a `datetime` in UTC, binary data of subtype 0 `bytes`,
     UUIDs of the representation a `UUID`, and ids an `ObjectId`. What Python has no plain value for stays as it is, such as
-    `{"$minKey": 1}`, and a date after the year 9999.
+    `{"$minKey": 1}`, and a date after the year 9999. A document that is written as a value is one, such as `{"$oid": ".."}`.
     """
     return {name: plain_value(value, uuids) for name, value in document.items()}
 
@@ -97,14 +100,17 @@ def plain_value(value: Any, uuids: Uuids = "standard") -> Any:
     return value
 
 
-def _whole(text: Any) -> int:
-    return int(_text(text, _WHOLE))
+def _whole(text: Any, all_of_them: range) -> int:
+    number = int(_text(text, _WHOLE))
+    if number not in all_of_them:
+        raise ValueError
+    return number
 
 
 def _date(inner: Any) -> datetime:
     if not isinstance(inner, dict) or list(inner) != ["$numberLong"]:
         raise ValueError
-    return _EPOCH + timedelta(milliseconds=_whole(inner["$numberLong"]))
+    return _EPOCH + timedelta(milliseconds=_whole(inner["$numberLong"], _INT64))
 
 
 def _binary(inner: Any, uuids: Uuids) -> bytes | UUID:
@@ -130,11 +136,11 @@ def _text(text: Any, form: re.Pattern[str]) -> str:
 
 
 _READERS: dict[str, Callable[[Any, Uuids], Any]] = {
-    "$numberInt": lambda text, _: _whole(text),
-    "$numberLong": lambda text, _: _whole(text),
+    "$numberInt": lambda text, _: _whole(text, _INT32),
+    "$numberLong": lambda text, _: _whole(text, _INT64),
     "$numberDouble": lambda text, _: float(_text(text, _DOUBLE)),
-    "$numberDecimal": lambda text, _: Decimal(_text(text, _DOUBLE)),
-    "$oid": lambda text, _: ObjectId(text),
+    "$numberDecimal": lambda text, _: Decimal(_text(text, _DECIMAL)),
+    "$oid": lambda text, _: ObjectId(_text(text, _HEX)),
     "$date": lambda inner, _: _date(inner),
     "$binary": _binary,
 }
@@ -166,56 +172,5 @@ def extended(value: Any, uuids: Uuids = "standard") -> Any:
 
 
 def _wrapped(data: bytes | bytearray | memoryview, subtype: str) -> dict[str, Any]:
-    return {"$binary": {"base64": base64.b64encode(data).decode(), "subType": subtype}}
-
-
-class Distinct:
-    """The values at a path in documents, as they are met, of an array each element; equal numbers are one, and a text and a symbol."""
-
-    def __init__(self, key: str, decode: Values, uuids: Uuids) -> None:
-        if not (isinstance(key, str) and key):
-            raise ArgumentError(f"key is the path of a field, not {key!r}")
-        if decode not in ("plain", "canonical"):
-            raise ArgumentError(f'decode is "plain" or "canonical", not {decode!r}')
-        self._names, self._decode, self._uuids = key.split("."), decode, uuids_of(uuids)
-        self._found: dict[object, Any] = {}
-
-    def add(self, document: dict[str, Any]) -> None:
-        """Takes the values of a document, which is canonical Extended JSON."""
-        for value in _values_at(document, self._names):
-            self._found.setdefault(_compared(value), value)
-
-    def values(self) -> list[Any]:
-        found = list(self._found.values())
-        return found if self._decode == "canonical" else [plain_value(it, self._uuids) for it in found]
-
-
-def _values_at(value: Any, names: Sequence[str]) -> Iterator[Any]:
-    """The values to which names lead: through each element of an array, or to the one of a position."""
-    if not names:
-        yield from value if isinstance(value, list) else [value]
-    elif isinstance(value, list):
-        if names[0].isdecimal() and names[0].isascii() and int(names[0]) < len(value):
-            yield from _values_at(value[int(names[0])], names[1:])
-        for element in value:
-            if isinstance(element, dict):
-                yield from _values_at(element, names)
-    elif isinstance(value, dict) and names[0] in value and next(iter(value)) not in WRAPPERS:
-        yield from _values_at(value[names[0]], names[1:])
-
-
-def _compared(value: Any) -> object:
-    """What values that are equal have in common, and no others."""
-    if isinstance(value, list):
-        return "array", *map(_compared, value)
-    if not isinstance(value, dict):
-        return type(value).__name__, value
-    if len(value) == 1:
-        ((name, inner),) = value.items()
-        if name == "$symbol" and isinstance(inner, str):
-            return "str", inner
-        number = plain_value(value)
-        if name.startswith("$number") and not isinstance(number, dict):
-            # Python compares numbers of its types by their values; NaN is not equal to itself.
-            return "number", number if number == number else "NaN"
-    return "document", *((name, _compared(inner)) for name, inner in value.items())
+    # The bytes of a view may lie apart.
+    return {"$binary": {"base64": base64.b64encode(bytes(data)).decode(), "subType": subtype}}

@@ -3,7 +3,7 @@
 from __future__ import annotations
 
 import struct
-from typing import Sequence
+from typing import Iterator, Sequence
 
 # How many bytes the values of a type have; or the first four count, beside all but this many.
 _FIXED = {0x01: 8, 0x06: 0, 0x07: 12, 0x08: 1, 0x09: 8, 0x0A: 0, 0x10: 4, 0x11: 8, 0x12: 8, 0x13: 16, 0x7F: 0, 0xFF: 0}
@@ -34,6 +34,16 @@ def end_of(data: bytes, kind: int, at: int) -> int:
     if kind == PATTERN:
         return data.index(b"\0", data.index(b"\0", at) + 1) + 1
     return at + int(length_at(data, at)[0]) + ~size
+
+
+def elements_of(document: bytes) -> Iterator[tuple[bytes, bytes]]:
+    """The names of the elements of a document without a fault, and their values, each as its type and its bytes."""
+    at = 4
+    while kind := document[at]:
+        start = document.index(b"\0", at + 1) + 1
+        end = end_of(document, kind, start)
+        yield document[at + 1 : start - 1], document[at : at + 1] + document[start:end]
+        at = end
 
 
 def value_at(document: bytes, names: Sequence[bytes]) -> bytes | None:

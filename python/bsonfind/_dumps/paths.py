@@ -32,12 +32,19 @@ class Path:
     the element at that position too.
     """
 
-    def __init__(self, text: str) -> None:
+    def __init__(self, text: str, *, has_empty: bool = True) -> None:
+        """Whether an empty array has a value, which is itself."""
         names = text.split(".")
+        try:
+            is_text = b"\0" not in text.encode()
+        except UnicodeEncodeError:
+            is_text = False  # It has half of a character.
+        if not is_text:
+            raise ArgumentError(f"not the path of a field: {text!r}")
         if len(names) > _MOST_NAMES or not all(names):
             why = "too many components" if len(names) > _MOST_NAMES else "empty component"
             raise ArgumentError(f'path "{text}": {why}')
-        self._text = text
+        self._text, self._has_empty = text, has_empty
         # The bytes of each name, and the position that it is; no array has -1.
         self._names = [(name.encode() + b"\0", int(name[:20]) if _POSITION.fullmatch(name) else -1) for name in names]
 
@@ -45,7 +52,7 @@ class Path:
         return self._text
 
     def values(self, document: bytes) -> list[bytes]:
-        """The values to which it leads, each as its type and its bytes: of an array the elements, and an empty array itself."""
+        """The values to which it leads, each as its type and its bytes: of an array the elements."""
         found: list[bytes] = []
         self._from_document(document, 4, 0, found)
         return found
@@ -82,7 +89,7 @@ class Path:
                 self._from_document(data, at + 4, level, found)
             elif kind == ARRAY:
                 self._from_array(data, at + 4, level, found)
-        elif kind == ARRAY and data[at + 4]:
+        elif kind == ARRAY and (data[at + 4] or not self._has_empty):
             at, find, sizes = at + 4, data.find, SIZES
             while kind := data[at]:
                 start = find(b"\0", at + 1) + 1
