@@ -22,6 +22,7 @@ from bsonfind import (
 )
 from bsonfind._ask import readings as _readings
 
+from .bson import field, int32, int64
 from .goods import FIRST, GOODS, MIXED, QUESTIONS, decimal, document, double, whole
 from .support import DAMAGED, PEOPLE, PEOPLE_LINES, PROGRAM, Room
 
@@ -138,7 +139,7 @@ class Finds(Goods):
             session.create_index("age")
             self.assertEqual(session.count_documents({"age": {"$gte": 99}}), 5)
             with self.assertRaises(CommandError):
-                session.count_documents({"age": {"$date": "2025-01-01T00:00:00Z"}})
+                session.count_documents({"age": {"$date": {"$numberLong": "x"}}})
             self.assertEqual([it.split()[:2] for it in self.starts()], [["bsonwide", "serve"]])
             self.assertEqual(session.count_documents({"age": {"$gte": 98.5}}), 5)
             self.assertEqual(session.count_documents({"age": {"$lt": Decimal("98.5")}}), 495)
@@ -163,6 +164,32 @@ class Finds(Goods):
                     with self.assertRaisesRegex(BsonfindError, text):
                         session.count_documents({"age": 98.5})
                 self.assertEqual(session.count_documents({"age": 99}), 5)
+
+    def test_dates_and_uuids_as_text(self) -> None:
+        """A session takes them where `find` does, also over a dump without doubles, within others and by an index."""
+        moments = [0, 1_735_689_600_000, 1_735_689_600_001, 1_790_839_800_500]
+        data = [
+            document(field(0x10, "_id", int32(number)), field(0x09, "placed", int64(moment)), field(0x05, "u", int32(16) + b"\4" + bytes([number]) * 16))
+            for number, moment in enumerate(moments)
+        ]
+        path = self.file(b"".join(data), "dates.bson")
+        one = {"$uuid": "01010101-0101-0101-0101-010101010101"}
+        for filter, wanted in (
+            ({"placed": {"$gte": {"$date": "2025-01-01T00:00:00Z"}}}, [1, 2, 3]), ({"placed": {"$date": "1970-01-01T00:00:00Z"}}, [0]),
+            ({"placed": {"$in": [{"$date": "2026-10-01T09:30:00.5+02:00"}, {"$date": {"$numberLong": "0"}}]}}, [0, 3]),
+            ({"u": one}, [1]), ({"$or": [{"u": one}, {"_id": 3}]}, [1, 3]), ({"u": {"$ne": one}, "placed": {"$lt": {"$date": "2025-01-01T00:00:00.001Z"}}}, [0]),
+        ):  # fmt: skip
+            with self.subTest(filter), Session(path, PROGRAM) as session:
+                self.assertEqual([it["_id"] for it in find(path, filter, program=PROGRAM)], wanted)
+                session.create_index("placed")
+                self.assertEqual([it["_id"] for it in session.find(filter)], wanted)
+                self.assertEqual(session.count_documents(filter), len(wanted))
+                self.assertEqual(session.distinct("_id", filter), wanted)
+        with Session(path, PROGRAM) as session:
+            for bad in ({"$date": "2025"}, {"$uuid": "01010101"}):
+                with self.assertRaises(CommandError) as raised:
+                    session.find({"placed": bad})
+                self.assertEqual((raised.exception.layer, raised.exception.text), ("json", "bad wrapper"))
 
     def test_threads_that_need_a_second_run(self) -> None:
         """There is one, whatever they do at once."""

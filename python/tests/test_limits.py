@@ -1,6 +1,9 @@
-"""Tests of what bounds a session: one deadline for a whole question."""
+"""Tests of what bounds a session: one deadline for a whole question, and the descriptors of a process."""
 
 import asyncio
+import gzip
+import subprocess
+import sys
 import threading
 import time
 import unittest
@@ -9,7 +12,7 @@ from typing import Callable, List
 
 from bsonfind import AsyncSession, Session, SessionEndedError, TimedOutError, count_documents
 
-from .support import PATIENCE, PEOPLE, Room, wait_for
+from .support import PATIENCE, PEOPLE, PROGRAM, Room, environment, wait_for
 
 # A session over a dump without doubles asks this of a second run.
 DOUBLE = {"age": 1.5}
@@ -95,3 +98,47 @@ class Deadlines(Room, unittest.IsolatedAsyncioTestCase):
         with self.assertRaises(SessionEndedError):
             await session.count_documents()
         await session.close()
+
+
+class Descriptors(Room):
+    def test_no_descriptor_is_left(self) -> None:
+        """Each call says so, whichever of those that it needs is the first that it does not get; nothing is left open."""
+        packed = self.file(gzip.compress(PEOPLE.read_bytes()), "people.bson.gz")
+        code = f"""
+import os, resource, sys
+from bsonfind import *
+program, hard = {PROGRAM!r}, resource.getrlimit(resource.RLIMIT_NOFILE)[1]
+def free():
+    opened = {{int(it) for it in os.listdir("/proc/self/fd")}}
+    return [it for it in range(256) if it not in opened or not os.path.exists(f"/proc/self/fd/{{it}}")]
+def within(path):
+    with Session(path, program) as session:
+        session.distinct("age")
+for path in sys.argv[1:]:
+    parts = plan(path)
+    for name, call in {{
+        "count": lambda: count_documents(path, program=program), "find": lambda: list(find(path, program=program)),
+        "distinct": lambda: distinct(path, "age", program=program), "explain": lambda: explain(path, program=program), "plan": lambda: plan(path),
+        "Session": lambda: within(path), "parts": lambda: find_parts(parts, program=program), "check": lambda: check_parts(parts, program=program),
+    }}.items():
+        call()
+        left, unused = 0, free()
+        while True:
+            resource.setrlimit(resource.RLIMIT_NOFILE, (unused[left], hard))
+            try:
+                call()
+                break
+            except BsonfindError as error:
+                if "Too many open files" not in str(error):
+                    print(name, left, type(error).__name__, error)
+                left += 1
+            finally:
+                resource.setrlimit(resource.RLIMIT_NOFILE, (hard, hard))
+            if free() != unused:
+                print(name, left, "left open")
+                break
+        print(name, left > 0)
+"""
+        run = subprocess.run([sys.executable, "-c", code, PEOPLE, packed], env=environment(), capture_output=True, text=True, timeout=PATIENCE)
+        names = ["count", "find", "distinct", "explain", "plan", "Session", "parts", "check"]
+        self.assertEqual((run.stdout.splitlines(), run.stderr), ([f"{it} True" for it in names] * 2, ""))

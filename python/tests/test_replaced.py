@@ -107,6 +107,33 @@ class Replaced(Room):
             self.file(b"".join(NEW), "next")
             self.refused(lambda: list(find(self.path, program=program, **how)))
 
+    def test_directory_that_is_replaced(self) -> None:
+        """The dump that was opened is no longer that of the name, whatever is the folder of this process by now."""
+        there, here = self.room / "backup", os.getcwd()
+        self.addCleanup(os.chdir, here)
+        for name in (there / "dump.bson", "backup/dump.bson", self.room / "link/dump.bson"):
+            for is_new in (True, False):
+                shutil.rmtree(there, ignore_errors=True)
+                self.file(b"".join(OLD), "backup/dump.bson")
+                (self.room / "link").unlink(missing_ok=True)
+                (self.room / "link").symlink_to("backup")
+                os.chdir(self.room)
+                with Session(name, os.path.join(here, PROGRAM)) as session:
+                    os.chdir("/")
+                    self.assertEqual(session.count_documents(), 4)
+                    shutil.rmtree(self.room / "old", ignore_errors=True)
+                    os.rename(there, self.room / "old")
+                    if is_new:
+                        self.file(b"".join(NEW), "backup/dump.bson")
+                    self.refused(lambda: session.count_documents({}), "the file was replaced, or its directory was moved")
+
+    def test_descriptor_that_is_closed(self) -> None:
+        """A session by the name of one keeps the file."""
+        with open(self.path, "rb") as file:
+            session = Session(f"/dev/fd/{file.fileno()}", PROGRAM)
+        with session:
+            self.assertEqual(session.count_documents(), 4)
+
     def test_hard_links_and_modes(self) -> None:
         """They count as changes, since the time by which a replaced file is known changes with them too."""
         with Session(self.path, PROGRAM) as session:

@@ -70,7 +70,6 @@ class Sessions(Room):
             (lambda: self.session.find({"a": {"$above": 1}}), ("filter", 1, "unknown operator", "a.$above")),
             (lambda: self.session.find({"a": {"$size": 1.5}}), ("filter", 3, "bad operand", "a.$size")),
             (lambda: self.session.find({"a": 1.5, "é": {"$oid": "x"}}), ("json", 4, "bad wrapper", 18)),
-            (lambda: self.session.find({"a": {"$date": "2025-01-01T00:00:00Z"}}), ("json", 5, "not in the profile", 5)),
             (lambda: self.session.find(sort=[("a", 1), ("a", -1)]), ("session", 1, "not a sort", None)),
             (lambda: self.session.find(sort={"a": 2}), ("session", 1, "not a sort", None)),
             (lambda: self.session.find(hint="b"), ("session", 2, "no such index", None)),
@@ -87,7 +86,7 @@ class Sessions(Room):
         self.assertEqual(len(list(self.session.find())), 500)
 
     def test_numbers_out_of_range(self) -> None:
-        for fields in ({"skip": -1}, {"limit": -1}, {"batch_size": 0}, {"limit": 1 << 31}):
+        for fields in ({"skip": -1}, {"limit": -1}, {"batch_size": -1}, {"limit": 1 << 31}):
             with self.subTest(fields), self.assertRaises(ValueError):
                 self.session.find(**fields)
         with self.assertRaises(TypeError):

@@ -1,5 +1,7 @@
 """Tests of what goes wrong between documents: forks, interrupts, documents that cannot be decoded, and questions that take long."""
 
+import asyncio
+import gc
 import gzip
 import json
 import os
@@ -9,10 +11,12 @@ import subprocess
 import sys
 import threading
 import time
+import warnings
 from typing import Callable, List
 from unittest import mock
 
 from bsonfind import (
+    AsyncSession,
     BsonfindError,
     CancelledError,
     CursorStateError,
@@ -113,6 +117,79 @@ print(1 + len(list(cursor)), 1 + len(list(answer)), session.count_documents())
 
         with Session(PEOPLE, PROGRAM):
             self.assertEqual(told_by_fork(ask), "no error")
+
+
+class Forgotten(Room):
+    """What nothing refers to any more leaves no program and no descriptor, as if it had been closed."""
+
+    def left(self, ask: Callable[[str], object]) -> List[str]:
+        """The numbers of the programs that run after something was asked ten times, each time without a word of its end."""
+        program = self.wide('echo $$ >>"$ROOM/pids"\nexec "$WIDE" "$@"')
+        with warnings.catch_warnings():
+            warnings.simplefilter("ignore", ResourceWarning)  # Python says itself that a file was not closed.
+            ask(program)
+            gc.collect()
+            descriptors = len(os.listdir("/proc/self/fd"))
+            for _ in range(10):
+                ask(program)
+            gc.collect()
+        self.assertEqual(len(os.listdir("/proc/self/fd")), descriptors)
+        pids = (self.room / "pids").read_text().split()
+        self.assertGreater(len(pids), 10)
+        return [it for it in pids if os.path.exists(f"/proc/{it}")]
+
+    def test_sessions(self) -> None:
+        def ask(program: str) -> None:
+            session = Session(PEOPLE, program)
+            next(session.find({"age": {"$gte": 0.5}}, batch_size=2))
+
+        self.assertEqual(self.left(ask), [])
+
+    def test_sessions_over_pipes(self) -> None:
+        packed = self.file(gzip.compress(PEOPLE.read_bytes()), "people.bson.gz")
+        self.assertEqual(self.left(lambda program: Session(packed, program).count_documents()), [])
+
+    def test_sessions_in_a_ring(self) -> None:
+        class Owner:
+            def __init__(self, program: str) -> None:
+                self.session, self.itself = Session(PEOPLE, program), self
+
+        self.assertEqual(self.left(Owner), [])
+
+    def test_sessions_for_asyncio(self) -> None:
+        async def ask(program: str) -> None:
+            session = await AsyncSession(PEOPLE, program).open()
+            await session.count_documents()
+
+        self.assertEqual(self.left(lambda program: asyncio.run(ask(program))), [])
+
+    def test_cursors(self) -> None:
+        """A cursor keeps its session."""
+        cursor = Session(PEOPLE, PROGRAM).find(batch_size=7, decode="bytes")
+        gc.collect()
+        self.assertEqual(list(cursor), PEOPLE_LINES)
+        cursor._session.close()
+
+    def test_answers(self) -> None:
+        path = self.file(PEOPLE.read_bytes() * 20)
+        self.assertEqual(self.left(lambda program: next(find(path, program=program))), [])
+
+    def test_end_of_python(self) -> None:
+        """Another process that has the pipes of a session, as after a fork, does not keep its program."""
+        code = f"""
+import os, time
+from bsonfind import Session
+session = Session({str(PEOPLE)!r}, {self.wide('echo $$ >>"$ROOM/pids"; exec "$WIDE" "$@"')!r})
+if not os.fork():
+    os.close(1), os.close(2)
+    time.sleep(60)
+    os._exit(0)
+print(session.count_documents())
+"""
+        ran = run_and_leave_open(code)
+        self.assertEqual((ran.stdout, ran.stderr), ("500\n", ""))
+        pid = (self.room / "pids").read_text().split()[-1]
+        wait_for(lambda: not os.path.exists(f"/proc/{pid}"))
 
 
 class Decoding(Room):
@@ -337,6 +414,30 @@ class LongQuestions(Room):
             session.count_documents()
         with self.assertRaisesRegex(SessionEndedError, "cancelled"):
             session.count_documents()
+
+    def test_pipes_of_what_was_cancelled(self) -> None:
+        """Its bytes are left to the next one that reads it, whether it is a file or a descriptor, and whoever opens it later."""
+        path = self.room / "pipe"
+        os.mkfifo(path)
+        read, write = os.pipe()
+        for name, open_it in ((path, lambda: os.open(path, os.O_WRONLY)), (f"/dev/fd/{read}", lambda: write)):
+            with self.subTest(name):
+                answer = find(name, program=PROGRAM)
+                threading.Timer(0.3, answer.cancel).start()
+                with self.assertRaises(CancelledError):
+                    next(answer)
+                with self.assertRaises(TimedOutError):
+                    Session(name, PROGRAM, timeout=0.3)
+                wait_for(lambda: threading.active_count() == 1)
+                later = find(name, decode="bytes", program=PROGRAM, timeout=PATIENCE)
+
+                def feed(pipe: int) -> None:
+                    with open(pipe, "wb") as file:
+                        file.write(PEOPLE.read_bytes())
+
+                threading.Thread(target=lambda open_it=open_it: feed(open_it())).start()
+                self.assertEqual(list(later), PEOPLE_LINES)
+        os.close(read)
 
     def test_cancelled_answer(self) -> None:
         answer = find(PEOPLE, program=self.slow())

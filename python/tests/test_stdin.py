@@ -37,6 +37,21 @@ class StandardInput(Room):
         run = subprocess.run(words, env=environment(), stdin=stdin, stdout=subprocess.PIPE, stderr=subprocess.STDOUT, timeout=PATIENCE)
         return run.returncode, run.stdout.decode()
 
+    def test_fault_before_a_stall(self) -> None:
+        """A command ends once a length is wrong, as the program does, while whoever writes to the pipe holds it."""
+        read, write = os.pipe()
+        os.write(write, DATA + b"\xff" * 8)
+        fault = f'document 4, byte {len(DATA)}, path "": bad length\n'
+        for command, told in (("check", f"{fault}5 documents, 1 faulty\n"), ("dump", f"bsonkit: {fault}4 objects found\n")):
+            if command == "dump":
+                os.write(write, DATA + b"\xff" * 8)
+            begun = time.monotonic()
+            status, said = self.run_over(self.words(command, "-"), read)
+            self.assertEqual((status, said[-len(told) :]), (1, told))
+            self.assertLess(time.monotonic() - begun, PATIENCE / 2)
+        os.close(read)
+        os.close(write)
+
     def names(self) -> Iterator[str]:
         """The names of standard input."""
         link = self.room / "link"

@@ -15,9 +15,10 @@ from .replies import read_reply
 from .requests import Request, Use, text_of, text_of_pairs
 
 LONGEST_COMMAND = 16_777_216
-# What the program says of what it does not read, such as a double over a dump without any; and what doubles and decimal128 begin with.
+# What the program says of what it does not read; and how begins what it reads over another dump, or by value: doubles, decimal128, and dates
+# and UUIDs as text.
 _NOT_TAKEN = "not in the profile"
-_DOUBLE = re.compile(rb'[-0-9]|\{"\$number(?:Double|Decimal)"')
+_BY_VALUE = re.compile(rb'[-0-9]|\{"\$(?:numberDouble|numberDecimal|date|uuid)"')
 
 
 class Command(NamedTuple):
@@ -47,7 +48,7 @@ def kill(cursor: int) -> Command:
 
 
 class NotTaken(CommandError):
-    """A double or a decimal128 in a command, which a session over a dump without any refuses."""
+    """What a session by value takes, and one over a dump without doubles and decimal128 refuses: one of these, a date or a UUID as text."""
 
 
 class Connection:
@@ -84,8 +85,8 @@ class Connection:
         except CommandError as error:
             if error.layer == "json" and isinstance(error.place, int):
                 start = max((it for it in command.starts if it <= error.place), default=0)
-                is_double = error.text == _NOT_TAKEN and _DOUBLE.match(command.line, error.place)
-                raise (NotTaken if is_double else CommandError)(error.layer, error.number, error.text, error.place - start) from None
+                is_by_value = error.text == _NOT_TAKEN and _BY_VALUE.match(command.line, error.place)
+                raise (NotTaken if is_by_value else CommandError)(error.layer, error.number, error.text, error.place - start) from None
             raise
 
     def create_index(self, path: str, sparse: bool) -> Plan[dict[str, Any]]:

@@ -2,6 +2,7 @@
 
 from __future__ import annotations
 
+import errno
 import os
 import select
 import stat
@@ -10,7 +11,7 @@ from typing import Any, BinaryIO, ContextManager, Iterable, Iterator, NamedTuple
 
 from .._arguments import File, name_of
 from .._errors import DumpError
-from .._run.processes import Dump
+from .._run.processes import Dump, wait_for_bytes
 from . import framing, gzip
 from .archive import Listed, documents_of, is_archive
 from .files import HEAD, INSIDE, STDIN, FileState, member_of
@@ -19,6 +20,10 @@ from .kinds import FEW, is_known, other_kind
 _PIECE = 1 << 18
 # How many milliseconds more bytes of a pipe are waited for, where the first ones do not say what it is.
 _PATIENCE = 1000
+# Names of open files, which last as long as these.
+_OPEN_FILES = ("/dev/", "/proc/")
+# What the system says where no more files can be open.
+_NO_DESCRIPTOR = (errno.EMFILE, errno.ENFILE)
 
 
 class Input(NamedTuple):
@@ -44,6 +49,8 @@ class Source(AbstractContextManager["Source"]):
         self.name, self._is_named = name_of(path), is_named
         self._member = member_of(self.name)
         self._path = self._member.archive if self._member else self.name
+        # The name of a file that is no other one's, wherever this process goes.
+        self._whole_name: str | None = None
         self._file: BinaryIO | None = None
         # The first bytes of a pipe or a device, once they are read and until they are passed on.
         self._kept: bytes | None = None
@@ -58,31 +65,38 @@ class Source(AbstractContextManager["Source"]):
         # What went wrong with the file where the last inputs end.
         self.errors: list[Exception] = []
         try:
-            is_pipe = self._path != STDIN and stat.S_ISFIFO(os.stat(self._path).st_mode)
+            self._is_pipe = self._path != STDIN and stat.S_ISFIFO(os.stat(self._path).st_mode)
         except OSError:
-            is_pipe = False  # Whoever opens it says what is wrong with it.
-        if not is_pipe:
+            self._is_pipe = False  # Whoever opens it says what is wrong with it.
+        if not self._is_pipe:
             status = os.fstat(self.file.fileno())
             if stat.S_ISREG(status.st_mode):
                 self._start = os.lseek(self.file.fileno(), 0, os.SEEK_CUR)
                 self.size = max(0, status.st_size - self._start)
                 self.state, self.mode = FileState.of(self.file), stat.S_IMODE(status.st_mode)
+                if self._path != STDIN and not self._path.startswith(_OPEN_FILES):
+                    self._whole_name = os.path.abspath(self._path)
 
     @property
     def file(self) -> BinaryIO:
         """The open file. Where it is named an error is as the program says it."""
         if self._file is None:
             try:
-                self._file = _standard_input() if self._path == STDIN else open(self._path, "rb", buffering=0)
+                self._file = _standard_input() if self._path == STDIN else open(self._path, "rb", buffering=0, opener=self._open)
             except OSError as error:
                 text = str(error.strerror)
                 if self._is_named and self._path == STDIN:
                     text = f"cannot read standard input: {text}"
                 elif self._is_named:
                     is_directory = isinstance(error, IsADirectoryError)
-                    text = f"cannot read {self.name}: it is a directory" if is_directory else f"cannot open {self.name}"
+                    why = f": {text}" if error.errno in _NO_DESCRIPTOR else ""
+                    text = f"cannot read {self.name}: it is a directory" if is_directory else f"cannot open {self.name}{why}"
                 raise DumpError(text) from error
         return self._file
+
+    def _open(self, path: str, flags: int) -> int:
+        """Opens the file. A pipe is not waited for here but where it is read, so that it is left once no one needs its bytes."""
+        return os.open(path, flags | os.O_NONBLOCK if self._is_pipe else flags)
 
     @property
     def head(self) -> bytes:
@@ -202,6 +216,19 @@ class Source(AbstractContextManager["Source"]):
         if self.state and not self.file.closed:
             self.state.refuse_other(self.file)
 
+    def check_name(self) -> None:
+        """The same, and refuses a file whose name is that of another one by now, or of none, as where its directory was replaced."""
+        self.check()
+        if self.state and self._whole_name:
+            try:
+                found = os.stat(self._whole_name)
+            except (FileNotFoundError, NotADirectoryError):
+                found = None
+            except OSError:
+                return  # Such as where this process lost a right since then.
+            if not found or (found.st_ino, found.st_dev) != (self.state.inode, self.state.device):
+                raise DumpError("the file was replaced, or its directory was moved, since it was opened")
+
     def close(self) -> None:
         if self._file:
             self._file.close()
@@ -250,12 +277,12 @@ def _has_more(file: BinaryIO) -> bool:
 
 
 def read_some(file: BinaryIO, most: int) -> bytes:
-    """The next bytes of an open file, none at its end. One that does not block, as a pipe that `ssh` left, is waited for."""
-    while (piece := file.read(most)) is None:
-        waiting = select.poll()
-        waiting.register(file, select.POLLIN)
-        waiting.poll()
-    return piece
+    """The next bytes of an open file, none at its end. One that does not block, as a pipe that `ssh` left, is waited for too."""
+    while True:
+        wait_for_bytes(file.fileno())
+        piece = file.read(most)
+        if piece is not None:
+            return piece
 
 
 def up_to_error(pieces: Iterable[bytes], errors: list[Exception]) -> Iterator[bytes]:
