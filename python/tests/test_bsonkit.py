@@ -383,13 +383,13 @@ class Programs(Room):
                 self.assertEqual((run.returncode, {*(it.split()[0] for it in self.starts())}), (0, {wanted}), (command, words, run.stderr))
                 (self.room / "starts").unlink()
         for words, _ in self.commands():
-            run = subprocess.run([str(kit), *words], env=self.outside(), capture_output=True, text=True, input="")
-            self.assertIn(run.returncode, (0, 1), (words, run.stderr))
-            self.assertNotIn("cannot", run.stderr, words)
-        code = f"import bsonfind\nprint(bsonfind.count_documents({str(PEOPLE)!r}), bsonfind.Session({str(PEOPLE)!r}).distinct('vip'))"
+            done = subprocess.run([str(kit), *words], env=self.outside(), capture_output=True, input=b"")
+            self.assertIn(done.returncode, (0, 1), (words, done.stderr))
+            self.assertNotIn(b"cannot", done.stderr, words)
+        code = f"import bsonfind\nprint(bsonfind.count_documents({str(PEOPLE)!r}), bsonfind.Session({str(PEOPLE)!r}).distinct('_id', {{'_id': 7}}))"
         for env in ({**self.outside(), "PYTHONPATH": str(self.room / "tree/python")}, {**self.outside(path), "PYTHONPATH": str(venv.parent.parent / "lib/python3.11/site-packages")}):
             run = subprocess.run([sys.executable, "-c", code], env=env, cwd=self.room, capture_output=True, text=True)
-            self.assertEqual((run.returncode, run.stdout), (0, "500 [True, False]\n"), run.stderr)
+            self.assertEqual((run.returncode, run.stdout), (0, "500 [7]\n"), run.stderr)
 
     def test_program_that_is_named(self) -> None:
         """`bsonfind` names the one beside it, and is not started; one that is not there, or no name, is refused by name."""
@@ -402,7 +402,7 @@ class Programs(Room):
             self.assertEqual((run.returncode, "check" in self.starts()), (0, True), run.stderr)
             (self.room / "starts").unlink()
         run = subprocess.run([str(kit), "--program", "bsonfind", "check", str(PEOPLE)], env=self.outside(self.room / "other"), capture_output=True, text=True)
-        self.assertEqual((run.returncode, self.starts()), (0, ["--version", "check"]))
+        self.assertEqual((run.returncode, self.starts()), (0, ["check"]))
         for program, status, told in (
             ("none/bsonfind", 2, "cannot start none/bsonfind: No such file or directory"), ("some-name", 2, "cannot start some-name: No such file or directory"),
             ("", 2, "program is the name of a program, not an empty one"),
@@ -426,7 +426,8 @@ class Programs(Room):
                 run = subprocess.run([*map(str, command), words, str(PEOPLE)], env=env, capture_output=True, text=True)
                 self.assertEqual((run.returncode, run.stdout, run.stderr), (status, "", told))
         code = f"import bsonfind\ntry: bsonfind.count_documents({str(PEOPLE)!r})\nexcept bsonfind.ProgramError as error: print(error)"
-        run = subprocess.run([sys.executable, "-c", code], env={**env, "PYTHONPATH": str(tree / "python")}, capture_output=True, text=True)
+        env["PYTHONPATH"] = str(tree / "python")
+        run = subprocess.run([sys.executable, "-c", code], env=env, cwd=self.room, capture_output=True, text=True)
         self.assertEqual(run.stdout, f"cannot find bsonwide: looked in {tree}, and on PATH, {env['PATH']}\n", run.stderr)
 
     def test_version_that_does_not_come(self) -> None:
@@ -443,7 +444,7 @@ class Programs(Room):
             out, said = run.communicate(timeout=PATIENCE)
             self.assertEqual((out, said[-len(told) :]), ("", told))
             self.assertNotEqual(run.returncode, 0)
-        self.assertLess(time.monotonic() - begun, 9)
+        self.assertLess(time.monotonic() - begun, PATIENCE / 2)
         pids = (self.room / "pids").read_text().split()
         self.assertEqual((len(pids), [it for it in pids if os.path.exists(f"/proc/{it}")]), (3, []))
 

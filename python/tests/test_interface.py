@@ -48,15 +48,21 @@ class Exports(Room):
     def test_types_that_are_read(self) -> None:
         """Whatever reads types as Python runs, such as a framework, reads those of each name, also if it alone was imported."""
         code = """
-import inspect, sys, typing, bsonfind
-it = getattr(bsonfind, sys.argv[1])
-for function in (value for _, value in inspect.getmembers(it, inspect.isfunction)) if inspect.isclass(it) else [it]:
-    if function.__module__.startswith("bsonfind"):
-        typing.get_type_hints(function)
+import inspect, os, sys, typing
+for name in sys.argv[1:]:
+    if os.fork():
+        os.wait()
+        continue
+    import bsonfind
+    it = getattr(bsonfind, name)
+    for function in (value for _, value in inspect.getmembers(it, inspect.isfunction)) if inspect.isclass(it) else [it]:
+        if function.__module__.startswith("bsonfind"):
+            typing.get_type_hints(function)
+    print(name, flush=True)
+    os._exit(0)
 """
-        for name in bsonfind.__all__:
-            run = subprocess.run([sys.executable, "-c", code, name], cwd=PACKAGE, capture_output=True, text=True)
-            self.assertEqual(run.stderr, "", name)
+        run = subprocess.run([sys.executable, "-c", code, *bsonfind.__all__], cwd=PACKAGE, capture_output=True, text=True)
+        self.assertEqual((run.stdout.split(), run.stderr), (bsonfind.__all__, ""))
 
 
 @unittest.skipIf(sys.version_info < (3, 11), "Python tells the overloads of a function from 3.11 on")
