@@ -137,6 +137,24 @@ def wide_tasks(kind: str, wide: str, name: str, room: str, one: dict) -> list[Ta
     for query in peers.queries(one)[:2] if kind == "priced" else []:
         others = peers.of_query(query, f"{shlex.quote(wide)} dump {shlex.quote(dump)}", dump)
         tasks.append(Task(f"find {query.name}", {OWN: [wide, "find", dump, *query.words()], **others}, alike=others.get("dump, jq", [])))
+    return tasks + (nan_tasks(wide, dump) if kind == "priced" else [])
+
+
+def nan_tasks(wide: str, dump: str) -> list[Task]:
+    """Comparisons of weights, with nearly all of them below, over the dump and over the dump with one NaN before it. Nothing is given."""
+    beside = f"{dump.removesuffix('.bson')}-nan.bson"
+    with open(beside, "wb") as made, open(dump, "rb") as plain:
+        made.write(bytes.fromhex("15000000 01 776569676874 00 000000000000f87f 00"))
+        shutil.copyfileobj(plain, made)
+    below = '{"weight":{"$lt":39.5}}'
+    tasks = []
+    for name, words in {
+        "below a weight": ["--query", below],
+        "below a weight, --index": ["--query", below, "--index", "weight"],
+        "below three weights": ["--query", f'{{"$or":[{{"weight":{{"$lt":0.5}}}},{{"weight":{{"$lte":39}}}},{below}]}}'],
+    }.items():
+        for of, file in (("", dump), (", beside NaN", beside)):
+            tasks.append(Task(f"find {name}{of}", {OWN: [wide, "find", file, "--batch", "0", *words]}))
     return tasks
 
 
