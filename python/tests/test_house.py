@@ -17,7 +17,7 @@ MOST_LINES = 350
 MOST_IMPORTED, MOST_OWN = 45, 12
 # What reads what a program printed.
 READERS = {
-    "lines_of", "faults_of", "all_faults", "finish", "finish_check", "finish_dump", "counted", "read_reply", "read_batch", "documents_in", "document_at",
+    "lines_of", "faults_of", "all_faults", "faulty_numbers", "finish", "finish_check", "finish_dump", "counted", "read_reply", "read_batch", "documents_in", "document_at",
     "error_of", "read_fault", "messages", "lines_of_documents", "texts_of_values", "pack_lines", "each_document", "batches",
 }  # fmt: skip
 # Each place that calls one of them, and what it does with what was printed. None of them decides what is a fault, or what matches.
@@ -39,7 +39,8 @@ PLACES = {
     "_ask/readings.Reading._read": "reads a reply",
     "_ask/readings.Reading.token": "reads a reply",
     "_dumps/runs.all_faults": "compares the count with that of what was given",
-    "_backup/beginnings.Beginnings._undamaged_of": "takes the places after which there is no damage",
+    "_dumps/runs.faulty_numbers": "the same",
+    "_backup/beginnings.Beginnings._check": "notes which documents have a fault",
     "_backup/archives._Side._read_archive": "takes the count",
     "_backup/compare.each_of": "takes the count",
     "_backup/compare.compared": "prints the texts of keys",
@@ -50,7 +51,7 @@ PLACES = {
     "_backup/query.Matching.of": "passes documents on",
     "_backup/query._answer": "passes lines on",
     "_backup/reading._Batch.good": "notes faults, and leaves out their documents",
-    "_backup/salvage.Salvaging._documents": "separates documents with a fault from others",
+    "_backup/salvaging._Batch.faults": "takes the faults, by which documents are separated from others",
     "_backup/show.show": "takes the first fault of a document",
     "_backup/show._look_at": "takes the faults of elements, each in a document that has it alone",
     "_backup/show.values_of": "prints the texts of values",
@@ -60,7 +61,8 @@ PLACES = {
     "_command/dumping.pack_input": "passes on what a run says",
     "_command/finding.Finding._print_all": "passes the line of the count on",
     "_command/finding.Finding._try": "asks no documents, so that a refused request is reported",
-    "_command/finding.Finding._print_parts": "waits for the line of each part; passes the count of what was joined on",
+    "_command/finding.Finding._print_parts": "passes the count of what was joined on",
+    "_command/finding.Finding._ask_parts": "takes the count of each part",
     "_dumps/runs.Checking.faults": "moves the places of faults of an input to those in the dump, and adds up the counts",
     "_dumps/runs.faults_of": "reads the lines of faults",
     "_dumps/runs.finish_check": "reads the line of the count; compares it with that of what was given",
@@ -118,11 +120,11 @@ DECIDES = {
         "puts the lines of `compare` in the order of their bytes, so that those of one key come together",
     ),
     **dict.fromkeys(
-        ["_backup/beginnings.Beginnings._undamaged_of", "_backup/reading._Batch.__init__"],
+        ["_backup/reading._Batch.__init__"],
         "how many documents, or bytes of them, a run was given, which its count is compared with",
     ),
     **dict.fromkeys(
-        ["_backup/beginnings.Beginnings._undamaged", "_backup/salvage.Salvaging._check_ahead", "_backup/salvage.Salvaged.bytes_left_out",
+        ["_backup/salvaging.Salvaging._check_ahead", "_backup/salvage.Salvaged.bytes_left_out",
          "_ask/readings.Reading._made", "_dumps/originals.Original.documents"],
         "bytes: how many are held in memory, or were left out",
     ),
@@ -132,9 +134,10 @@ DECIDES = {
     ),
     **dict.fromkeys(
         ["_backup/audit._check_all", "_backup/audit._Checker._check_archive", "_backup/backups._found_in",
-         "_backup/backups.metadata_below", "_backup/compare.pairs_of"],
+         "_backup/backups.metadata_below", "_backup/backups.preludes_below", "_backup/compare.pairs_of"],
         "puts files or collections in the order of their names or sizes",
     ),
+    "_command/finding.Finding._print_parts": "adds up the counts of parts that have no document in common",
     "_command/arguments._Parser.parse_known_args": "names the first option that is given twice",
     "_command/commands._run_unpack": "adds up the documents of collections that were written",
     "_ask/lines.Lines.count": "adds up the counts of inputs of one dump",

@@ -88,7 +88,7 @@ class Salvages(Room):
             (people[:39978] + junk + people[39978:], people, 1),
             (junk + people + DAMAGED + junk * 1000, people, 2),
         ):
-            for module, patched in (("salvage", {"_MOST": 300, "_FIRST": 300}), ("salvage", {"_MOST_DOCUMENTS": 7}), ("beginnings", {"_PIECE": 64})):
+            for module, patched in (("salvaging", {"_MOST": 300, "_FIRST": 300}), ("salvaging", {"_MOST_DOCUMENTS": 7}), ("beginnings", {"_PIECE": 64})):
                 with mock.patch.multiple(f"bsonfind._backup.{module}", **patched):
                     done = self.salvaged(data)
                 self.assertEqual((len(done.left_out), self.good.read_bytes()), (left_out, kept))

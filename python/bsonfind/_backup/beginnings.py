@@ -3,12 +3,14 @@
 from __future__ import annotations
 
 import re
-from typing import Iterable, Iterator, NamedTuple
+from collections import deque
+from itertools import chain as joined, islice
+from typing import Iterable, Iterator, NamedTuple, Sequence
 
-from .._dumps.elements import length_at
+from .._dumps.elements import PATTERN, SIZES, length_at, value_end
 from .._dumps.framing import LONGEST, SHORTEST
 from .._dumps.gzip import UnpackError
-from .._dumps.runs import all_faults, checking
+from .._dumps.runs import checking, faulty_numbers
 from .._errors import why
 from .._faults import NO_DAMAGE
 from .._run.processes import Dump, Group
@@ -26,13 +28,19 @@ _LIKE_DOCUMENTS = (b"\x03", b"\x04", b"\x10")
 _OF_NAMES, _LONGEST_NAME = bytes(range(0x20, 0x100)), 256
 # The types of first elements, and the last byte of a document without any.
 _TYPES = frozenset([*range(0x14), 0x7F, 0xFF])
-# This many chains of documents are looked at by one run at most.
-_MOST_CHAINS = 1024
-# How many bytes of chains one run looks at, once it has this many.
-_MOST = 1 << 22
-_PIECE = 1 << 20
+# This many chains of documents are looked at by one run at most, and this many bytes of their documents; it looks at more of them
+# where the last ones are not further away than this.
+_MOST_CHAINS, _MOST, _NEAR = 1 << 16, 1 << 22, 1 << 16
+# Of this many documents it is known at most what `check` says.
+_MOST_KNOWN = 1 << 19
+# How many elements of a document are looked at before it is checked: most of what looks like one is none.
+_MOST_ELEMENTS = 16
+# How many bytes are looked at as one piece, at first and at most.
+_FIRST_PIECE, _PIECE = 1 << 12, 1 << 20
 # How many bytes are passed at once at most before the next piece is asked for.
 _MOST_AT_ONCE = 1 << 20
+# How many documents that seem to begin inside of a bad one are looked at together with those in other ones.
+_MOST_INSIDE = 4
 
 
 class Window:
@@ -51,7 +59,7 @@ class Window:
 
     def has(self, end: int) -> bool:
         """Whether the stream reaches that far."""
-        while self.end < end:
+        while self.start + len(self._held) < end:
             try:
                 piece = next(self._pieces, b"")
             except (UnpackError, OSError) as error:
@@ -75,8 +83,10 @@ class Window:
         self.start = start
 
     def drop(self, end: int) -> None:
-        del self._held[: end - self.start]
-        self.start = end
+        """Keeps nothing before a place."""
+        if end > self.start:
+            del self._held[: end - self.start]
+            self.start = end
 
     def document_end(self, at: int) -> int | None:
         """Where the document ends that begins there, by its length; None if this is wrong."""
@@ -102,24 +112,43 @@ class Window:
             at = start + here
         return ends
 
+    def end_by_elements(self, at: int) -> int | None:
+        """Where the document ends that begins there, by its elements, whatever its length is; None if that was not read."""
+        held, here = self._held, at - self.start + 4
+        while 0 < here < len(held) and held[here]:
+            zero = held.find(b"\0", here + 1)
+            stop = value_end(held, held[here], zero + 1) if zero > 0 else None
+            if stop is None:
+                return None
+            here = stop
+        return self.start + here + 1 if 0 < here < len(held) else None
+
 
 class Beginnings:
     """The places of a stream from which documents follow one another without damage."""
 
     def __init__(self, window: Window, program: str, group: Group | None = None) -> None:
         self._window, self._program, self._group = window, program, group
+        # What check says of documents, by their places: no fault, or one that is no damage, or damage. What ends before a place as
+        # if it were a document is known by both places.
+        self._known: dict[object, str | None] = {}
+        # How many chains the next run looks at, and the place of the last one.
+        self._most, self._last = 1, 0
+        # The document that was looked at for its end by its elements, how far it was read, and that end.
+        self._walked: tuple[int, int, int | None] = -1, 0, None
 
     def after(self, start: int, end: int | None = None) -> int | None:
         """Where a document begins after a wrong length and before an end, None if none seems to. What is before that is dropped."""
-        at = start + 1
+        at, size = start + 1, min(_FIRST_PIECE, _PIECE)
         while (end is None or at < end) and self._window.has(at + SHORTEST):
-            self._window.has(at + _PIECE)
-            piece = self._window.part(at, min(at + _PIECE, self._window.end))
+            self._window.has(at + size)
+            piece = self._window.part(at, min(at + size, self._window.end))
             for beginning in self._undamaged(self._chain(at + it, start) for it in _places(_BEGINNING, piece, 0)):
                 return beginning
-            # A beginning may go over the end of the piece.
+            # A beginning may go over the end of the piece. The document with the wrong length is kept as long as it may end before one.
             at += len(piece) - _BEFORE
-            self._window.drop(max(at - _LONGEST_NAME, self._window.start))
+            size = min(4 * size, _PIECE)
+            self._window.drop(at - max(_PIECE, _LONGEST_NAME))
         return None
 
     def inside(self, start: int, end: int, kind: str) -> tuple[int | None, bool]:
@@ -128,15 +157,33 @@ class Beginnings:
         They are none, and the length of the bad document is wrong, where others lead on from them to the end or beyond it, or where
         none begins at the end.
         """
-        is_whole = kind in NO_DAMAGE
-        pattern = _NEXT_BEGINNING if is_whole else _BEGINNING
-        self._window.has(end + _BEFORE)
-        data = self._window.part(start, min(end + _BEFORE, self._window.end))
-        places = _places(pattern, data, SHORTEST, not is_whole)
-        for beginning in self._undamaged(self._chain(start + it, start) for it in places):
+        for beginning in self._undamaged(self._inside(start, end, kind)):
             is_end = not self._window.has(end + 1)
             return beginning, not self._reaches(beginning, end) and (is_end or any(True for _ in self._undamaged([self._chain(end)])))
         return None, False
+
+    def look_inside(self, documents: Iterable[tuple[int, int, str]]) -> None:
+        """Has what seems to begin inside of several bad documents checked together, so that `inside` starts no run for each."""
+        for _ in self._undamaged(self._inside_of_all(documents)):
+            pass
+
+    def _inside_of_all(self, documents: Iterable[tuple[int, int, str]]) -> Iterator[Chain | None]:
+        for start, end, kind in documents:
+            found = list(islice(filter(None, self._inside(start, end, kind)), _MOST_INSIDE))
+            yield from found
+            if found:
+                yield self._chain(end)
+
+    def are_sound(self, start: int, ends: Sequence[int]) -> bool:
+        """Whether it is known already that documents, by their beginnings, have no fault."""
+        return all(self._known.get(it, "") is None for it in joined([start], ends[:-1]))
+
+    def _inside(self, start: int, end: int, kind: str) -> Iterator[Chain | None]:
+        is_whole = kind in NO_DAMAGE
+        self._window.has(end + _BEFORE)
+        data = self._window.part(start, min(end + _BEFORE, self._window.end))
+        for place in _places(_NEXT_BEGINNING if is_whole else _BEGINNING, data, SHORTEST, not is_whole):
+            yield self._chain(start + place, start)
 
     def _reaches(self, at: int, end: int) -> bool:
         """Whether documents lead on from there to a place or beyond it."""
@@ -153,44 +200,56 @@ class Beginnings:
         Where the bytes before them look like a field, they may be its value, inside the document with a fault that begins at
         `start`. Then this one, as if it ended before them, must have no fault.
         """
-        end, documents = at, 0
-        while documents < IN_A_ROW and (documents == 0 or self._window.has(end + 1)):
+        ends: list[int] = []
+        end = at
+        while len(ends) < IN_A_ROW and (not ends or self._window.has(end + 1)):
             after = self._window.document_end(end)
             if after is None or self._window.byte(after - 1) or self._window.byte(end + 4) not in _TYPES:
                 return None
-            end, documents = after, documents + 1
-        before = b""
+            end = after
+            ends.append(end)
         if start is not None and _is_field(self._window.part(max(at - _LONGEST_NAME, self._window.start), at)):
-            if not SHORTEST <= at - start <= LONGEST or start < self._window.start:
+            # By its elements it ends at one place at most.
+            if not SHORTEST <= at - start <= LONGEST or start < self._window.start or self._end_by_elements(start) != at:
                 return None
-            before = (at - start).to_bytes(4, "little") + self._window.part(start + 4, at)
-        return Chain(at, before, documents, self._window.part(at, end))
+            return Chain(at, ends, start)
+        return Chain(at, ends)
+
+    def _end_by_elements(self, start: int) -> int | None:
+        if self._walked[:2] != (start, self._window.end):
+            self._walked = start, self._window.end, self._window.end_by_elements(start)
+        return self._walked[2]
 
     def _undamaged(self, chains: Iterable[Chain | None]) -> Iterator[int]:
-        """The places of those chains in which `check` finds no damage. One run looks at one chain at first, then at more."""
-        waiting: list[Chain] = []
-        most = 1
-        for chain in filter(None, chains):
-            waiting.append(chain)
-            if len(waiting) == most or sum(len(it.data) for it in waiting) > _MOST:
-                yield from self._undamaged_of(waiting)
-                waiting, most = [], min(2 * most, _MOST_CHAINS)
-        yield from self._undamaged_of(waiting)
+        """The places of those chains in which `check` finds no damage. One run looks at one of them at first, then at more."""
+        waiting: deque[Chain] = deque()
+        coming = filter(None, chains)
+        while chain := (waiting.popleft() if waiting else next(coming, None)):
+            if any(it not in self._known for it in chain.documents()):
+                self._most = min(2 * self._most, _MOST_CHAINS) if abs(chain.place - self._last) < _NEAR else 1
+                held = 0
+                while len(waiting) + 1 < self._most and held < _MOST and (more := next(coming, None)):
+                    waiting.append(more)
+                    held += more.ends[-1] - more.place
+                self._last = waiting[-1].place if waiting else chain.place
+                self._check([chain, *waiting])
+            if all(self._known[it] in (None, *NO_DAMAGE) for it in chain.documents()):
+                yield chain.place
 
-    def _undamaged_of(self, chains: list[Chain]) -> list[int]:
-        """The places of those chains in which one run finds no damage."""
-        if not chains:
-            return []
-        run = checking(Dump([data for it in chains for data in (it.before, it.data)]), self._program, self._group)
-        faults = {it.document: it.kind for it in all_faults(run, sum(bool(it.before) + it.documents for it in chains))}
-        places, first = [], 0
+    def _check(self, chains: list[Chain]) -> None:
+        """Has the documents of chains checked by one run, each once. What it says is kept."""
+        if len(self._known) > _MOST_KNOWN:
+            self._known.clear()
+        documents: dict[object, bytes] = {}
         for chain in chains:
-            documents = range(first + bool(chain.before), first + bool(chain.before) + chain.documents)
-            is_ended = not chain.before or first not in faults
-            if is_ended and all(faults.get(it, NO_DAMAGE[0]) in NO_DAMAGE for it in documents):
-                places.append(chain.place)
-            first = documents.stop
-        return places
+            for key, start, end in zip(chain.documents(), (chain.place, *chain.ends), chain.ends):
+                if not (key in documents or key in self._known):
+                    documents[key] = self._window.part(start, end)
+            if chain.start is not None:
+                length = chain.place - chain.start
+                documents[chain.start, chain.place] = length.to_bytes(4, "little") + self._window.part(chain.start + 4, chain.place)
+        kinds = faulty_numbers(checking(Dump([b"".join(documents.values())]), self._program, self._group), len(documents))
+        self._known.update((key, kinds.get(number)) for number, key in enumerate(documents))
 
 
 def _is_field(before: bytes) -> bool:
@@ -199,20 +258,56 @@ def _is_field(before: bytes) -> bool:
 
 
 def _places(pattern: re.Pattern[bytes], data: bytes, first: int, with_values: bool = True) -> Iterator[int]:
-    """Where a document may begin in some bytes, by its length, and by its last byte where this is among them."""
+    """Where a document may begin in some bytes, by its length, and by its first element and its last byte where these are among them."""
     size = len(data)
     for found in pattern.finditer(data, first + _BEFORE):
-        at = found.start() - _BEFORE
+        kind_at = found.start()
+        at = kind_at - _BEFORE
         (length,) = length_at(data, at)
-        if SHORTEST <= length <= LONGEST and (at + length > size or not data[at + length - 1]):
-            if with_values or not _is_field(data[max(at - _LONGEST_NAME, 0) : at]):
-                yield at
+        if not SHORTEST <= length <= LONGEST:
+            continue
+        end = at + length
+        if end <= size and data[end - 1] or _is_broken(data, kind_at, end):
+            continue
+        if with_values or not _is_field(data[max(at - _LONGEST_NAME, 0) : at]):
+            yield at
+
+
+def _is_broken(data: bytes, at: int, end: int) -> bool:
+    """Whether the first elements of a document, the first of which begins at a place, do not lead to its end, as far as they are here."""
+    size = len(data)
+    for _ in range(_MOST_ELEMENTS):
+        if at >= size:
+            return False
+        kind = data[at]
+        if not kind or kind not in _TYPES:
+            return bool(kind) or at + 1 != end
+        zero = data.find(b"\0", at + 1, end)
+        fixed = SIZES[kind]
+        if zero < 0:
+            return end <= size
+        if fixed >= 0:
+            at = zero + 1 + fixed
+        elif kind == PATTERN or zero + 5 > size:
+            return False
+        else:
+            length = length_at(data, zero + 1)[0] + ~fixed
+            if length < 4:
+                return True
+            at = zero + 1 + length
+        if at >= end:
+            return True
+    return False
 
 
 class Chain(NamedTuple):
-    """Documents that seem to follow one another from a place on, and perhaps one that must have no fault before them."""
+    """Documents that seem to follow one another from a place on, by their ends, and the beginning of one that must end before them."""
 
     place: int
-    before: bytes
-    documents: int
-    data: bytes
+    ends: list[int]
+    start: int | None = None
+
+    def documents(self) -> list[object]:
+        """What each of its documents is known by."""
+        before: list[object] = [] if self.start is None else [(self.start, self.place)]
+        return [self.place, *self.ends[:-1], *before]

@@ -17,7 +17,7 @@ from .._dumps.sources import Source, Watch
 from .._errors import BsonfindError, is_finding, why
 from .._run.processes import Group, wide_program
 from .backups import Dump
-from .salvage import Copied, Salvaging
+from .salvaging import Copied, Salvaging
 from .search import Found, Match, Search, Wanted
 from .split import split
 from .workers import Workers, begun_ahead

@@ -14,8 +14,9 @@ from .._dumps.outputs import NewOutput, is_same, naming
 from .._dumps.sources import Source
 from .._errors import ArgumentError, BsonfindError, DumpError, FileError, is_finding, why
 from .._run.processes import Group, wide_program
-from .backups import dumps_below, metadata_below, stem_of, stem_of_file, stem_of_half
-from .salvage import Salvaged, Salvaging
+from .backups import dumps_below, metadata_below, preludes_below, stem_of, stem_of_file, stem_of_half
+from .salvage import Salvaged, copied
+from .salvaging import Salvaging
 from .split import split
 
 # The endings of the files that are written of a dump, of those that are not whole yet, and of those of metadata.
@@ -75,7 +76,8 @@ class _Salvage:
         archives = {it.name for it in dumps if is_whole_archive(it.name)}
         # Where each of them goes, without an ending; an archive into a directory of its name.
         places = {it.name: self._place(it.name if it.name in archives else _stem(it.name), directory) for it in dumps}
-        copies = {path: self._place(path, directory).rpartition(_JSON)[0] + _JSON for path, _, wrong in metadata if not wrong}
+        beside = [*(path for path, _, wrong in metadata if not wrong), *preludes_below(directory)]
+        copies = {path: self._place(path, directory).rpartition(_JSON)[0] + _JSON for path in beside}
         endings = {name: ("",) if name in archives else (_GOOD, _BAD) for name in places}
         self._refuse([*(places[name] + ending for name in places for ending in endings[name]), *copies.values()])
         for dump in dumps:
@@ -90,10 +92,8 @@ class _Salvage:
                             self._copy(dump.name, source, places[dump.name])
                 if dump.error:
                     self._note_fault(f"{dump.name}: {dump.error}")
-        for path, _, wrong in metadata:
-            if wrong:
-                self.done.problems.append(os.path.join(os.path.dirname(path), wrong))
-                continue
+        self.done.problems.extend(os.path.join(os.path.dirname(path), wrong) for path, _, wrong in metadata if wrong)
+        for path in beside:
             with self._noting(path), Source(path) as source:
                 self._copy_metadata(source.pieces(), copies[path], source.mode)
 
@@ -122,9 +122,8 @@ class _Salvage:
         """Copies the documents of a dump to two files, of which the second one is there only if it is needed."""
         with ExitStack() as files:
             good, bad = (files.enter_context(_new_output(stem, it, it + _PART, mode or source.mode)) for it in (_GOOD, _BAD))
-            done = Salvaging(source.pieces(), self._program, self._group).copy(
-                good.write, bad.write, lambda text: self._say(f"{name}: {text}")
-            )
+            salvaging = Salvaging(source.pieces(), self._program, self._group)
+            done = copied(salvaging, good.write, bad.write, lambda text: self._say(f"{name}: {text}"))
             for output in (good, bad) if done.bad else (good,):
                 output.complete()
                 output.put_in_place()

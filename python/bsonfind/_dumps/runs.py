@@ -16,6 +16,8 @@ from .sources import Source
 Batches = Generator["list[bytes]", None, None]
 _PIECE = 1 << 16
 _CHECKED = re.compile(r"(\d+) documents, (\d+) faulty\n")
+# The number of a document with a fault, and the kind.
+_FAULTY = re.compile(r"^document (\d+), .*: ([^:\n]+)$", re.MULTILINE)
 _FOUND = re.compile(r"(\d+) objects found\n")
 PACKED = re.compile(r"\d+ objects packed\n")
 
@@ -70,6 +72,14 @@ def all_faults(run: Run, documents: int) -> list[Fault]:
         faults = list(faults_of(run))
         finish_check(run, documents)
     return faults
+
+
+def faulty_numbers(run: Run, documents: int) -> dict[int, str]:
+    """The kinds of the faults of this many documents by their numbers, as a run of `check` finds them; once it has ended it is closed."""
+    with run:
+        found = _FAULTY.findall(run.stdout.read().decode())
+        finish_check(run, documents)
+    return {int(number): kind for number, kind in found}
 
 
 def checking(dump: Dump, program: str, group: Group | None = None) -> Run:
