@@ -219,8 +219,8 @@ class Info(Room):
         """A tab, the end of a line and what is no text of UTF-8 forge no column."""
         self.file(ONE, "d/x.bson")
         self.file(b'{"collectionName":"a\\tb\\n\\ud800","indexes":[{"name":"i\\u001b","key":{}}]}', "d/x.metadata.json")
-        self.assertEqual(self.info(self.room / "d"), ["d\ta\\x09b\\x0a\\ud800\tcollection\t1\t14\t14\ti\\x1b {}\t"])
-        self.assertEqual(json.loads(self.info(self.room / "d", "--json")[0])["collection"], "a\tb\n\ud800")
+        self.assertEqual(self.info(self.room / "d"), ["d\ta\\x09b\\x0a\ufffd\tcollection\t1\t14\t14\ti\\x1b {}\t"])
+        self.assertEqual(json.loads(self.info(self.room / "d", "--json")[0])["collection"], "a\tb\n\ufffd")
 
     def test_terminal(self) -> None:
         """There a header comes first, and a line of progress after a second, not before."""

@@ -12,6 +12,7 @@ from .._errors import DumpError
 from .._faults import Fault
 from .._run.processes import Group
 from .beginnings import Beginnings, Window
+from .texts import visible_json
 
 # The faults of a byte that has a value which it must not have, and those of the length of a document.
 _OF_A_BYTE = ("bad boolean", "not UTF-8", "unknown type")
@@ -30,7 +31,7 @@ class Detail(NamedTuple):
 
     def __str__(self) -> str:
         value = "" if self.value is None else f" {self.value:02x}"
-        told = "" if self.id is None else f"; _id {self.id}"
+        told = "" if self.id is None else f"; _id {visible_json(self.id)}"
         more = "" if self.goes_on is None else f"; documents seem to go on from byte {self.goes_on}"
         return f"{value}{told}{more}"
 

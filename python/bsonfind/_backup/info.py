@@ -4,6 +4,8 @@ from __future__ import annotations
 
 import json
 import os
+import re
+from functools import lru_cache
 from math import isfinite
 from typing import Any, Callable, Iterable, Iterator, NamedTuple, Sequence
 
@@ -15,10 +17,13 @@ from .._dumps.sources import Watch
 from .audit import audit_dumps
 from .backups import collection_of, dumps_of, metadata_below, namespace_of, read_metadata, stem_of_file, stem_wanted
 from .reports import Audit, Report
+from .texts import line_of_json
 
 COLUMNS = ("database", "collection", "kind", "documents", "bytes", "average", "indexes", "options")
 # What the name of the collection begins with that has the documents of a time series.
 _BUCKETS = "system.buckets."
+# What is between the name of a directory or an archive and that of what is in it.
+_IN = re.compile(f"{os.sep}+|{INSIDE}")
 # The endings of the names of the two collections of GridFS.
 _FILES, _CHUNKS = ".files", ".chunks"
 _NUMBERS = {"$numberInt", "$numberLong", "$numberDouble"}
@@ -46,7 +51,7 @@ class Entry(NamedTuple):
         return (2 * (self.bytes or 0) + self.documents) // (2 * self.documents) if self.documents else None
 
     def as_json(self) -> str:
-        return json.dumps({name: getattr(self, name) for name in (*COLUMNS, "metadata", "file")})
+        return line_of_json({name: getattr(self, name) for name in (*COLUMNS, "metadata", "file")})
 
     def cells(self) -> list[str]:
         """The columns of a table; what is not known is empty."""
@@ -80,16 +85,19 @@ def _of_archive(archive: str, listed: Iterable[Listed], reports: Iterable[Report
 
 def _of_files(reports: Iterable[Report], names: Iterable[str], lists: dict[str, list[Listed]]) -> Iterator[Entry]:
     """The collections of dumps, and those of which metadata alone is below a directory."""
-    # The metadata of each dump, by the name of this without an ending, or by its own.
+    # The metadata of each dump, by the name of this without an ending, or by its own; a directory may have several names.
     described: dict[str, tuple[str, dict[str, Any]]] = {}
+    real, seen = lru_cache(os.path.realpath), set[str]()
     for directory in filter(os.path.isdir, names):
         for path, metadata, _ in metadata_below(directory):
-            if metadata is None:
+            inside, base = os.path.split(path)
+            if metadata is None or (own := os.path.join(real(inside), base)) in seen:
                 continue
+            seen.add(own)
             stem = stem_wanted(path, metadata)
-            name = path if stem is None else os.path.join(os.path.dirname(path), stem)
+            name = own if stem is None else os.path.join(real(inside), stem)
             # That of a time series comes before that of its buckets.
-            if name not in described or not os.path.basename(path).startswith(_BUCKETS):
+            if name not in described or not base.startswith(_BUCKETS):
                 described[name] = path, metadata
     for report in reports:
         if member := member_of(report.name):
@@ -97,7 +105,8 @@ def _of_files(reports: Iterable[Report], names: Iterable[str], lists: dict[str, 
             if listed or not report.error:
                 yield _entry(report.name, listed.namespace if listed else member.namespace, listed and _metadata_of(listed), report)
             continue
-        path, found = described.pop(stem_of_file(report.name), (report.name, None))
+        inside, base = os.path.split(stem_of_file(report.name))
+        path, found = described.pop(os.path.join(real(inside), base), (report.name, None))
         found = read_metadata(report.name)[0] if found is None else found
         if found is not None or report.namespace:
             is_own = path == report.name or kind_of(found) != "timeseries"
@@ -137,10 +146,15 @@ def _entry(file: str, namespace: Namespace, metadata: dict[str, Any] | None, rep
 def _ordered(entries: list[Entry], names: Sequence[str]) -> list[Entry]:
     """The collections by what they are in, and by name. Two that have the names of GridFS are of this kind."""
 
+    places: dict[str, int] = {}
+    for number, name in enumerate(names):
+        places.setdefault(name.rstrip(os.sep) or os.sep, number)
+
     def key(entry: Entry) -> tuple[int, str, str]:
         # A file is the one of a name, or is in it, which is a directory or an archive.
-        among = (n for n, it in enumerate(names) if entry.file == it or entry.file.startswith((os.path.join(it, ""), it + INSIDE)))
-        return next(among, len(names)), entry.database, entry.collection
+        ends = (it.start() for it in _IN.finditer(entry.file))
+        among = (places.get(it, len(names)) for it in (entry.file, os.sep, *(entry.file[:end] for end in ends)))
+        return min(among), entry.database, entry.collection
 
     there = {key(it) for it in entries if it.kind == "collection"}
     for number, entry in enumerate(entries):

@@ -11,6 +11,7 @@ from .._dumps.sources import Source
 from .._faults import NO_DAMAGE, Fault
 from .._run.processes import Group
 from .damage import Detail, details_of, is_of_a_length
+from .texts import line_of_json
 
 # How many faults of a file are reported one by one.
 MOST_FAULTS = 10
@@ -238,7 +239,7 @@ class Audit(NamedTuple):
 
     def as_json(self) -> str:
         """All of it, as one line of JSON."""
-        return json.dumps(
+        return line_of_json(
             {
                 "good": self.is_good,
                 "files": [it.as_json() for it in self.reports],

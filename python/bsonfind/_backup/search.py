@@ -8,6 +8,7 @@ from __future__ import annotations
 import re
 import signal
 import sys
+import warnings
 from contextlib import contextmanager
 from importlib import import_module
 from typing import Any, Callable, Iterator, NamedTuple
@@ -71,7 +72,7 @@ class Search:
         self._wanted = wanted
         self._text = (wanted.text.casefold() if wanted.ignores_case else wanted.text).encode()
         self._folded = wanted.text.casefold()
-        self._pattern = re.compile(wanted.text, re.IGNORECASE if wanted.ignores_case else 0) if wanted.is_pattern else None
+        self._pattern = compiled(wanted.text, wanted.ignores_case) if wanted.is_pattern else None
         literal = b"" if wanted.ignores_case else literal_in(self._pattern) if self._pattern else self._text
         # What a document must have one of among its bytes, unless it is looked at in another way.
         self._needles = [it for it in (wanted.id, wanted.uuid, *wanted.old_uuids, literal) if it]
@@ -222,12 +223,22 @@ def _alarm(ring: Callable[..., None], seconds: float) -> Iterator[None]:
         signal.setitimer(signal.ITIMER_REAL, 0)
 
 
+def compiled(text: str, ignores_case: bool) -> re.Pattern[str]:
+    """A pattern, of which Python prints no warning, such as that another version of it may read it in another way."""
+    with warnings.catch_warnings():
+        warnings.simplefilter("ignore")
+        return re.compile(text, re.IGNORECASE if ignores_case else 0)
+
+
 def literal_in(pattern: re.Pattern[str]) -> bytes:
     """A text that all that a pattern matches has, as Python itself reads the pattern; an empty one if none is known."""
     runs = [""]
     try:
         parser: Any = import_module("re._parser" if sys.version_info >= (3, 11) else "sre_parse")
-        for kind, value in () if pattern.flags & re.IGNORECASE else parser.parse(pattern.pattern, pattern.flags):
+        with warnings.catch_warnings():
+            warnings.simplefilter("ignore")  # They were not printed where it was compiled.
+            parts = () if pattern.flags & re.IGNORECASE else parser.parse(pattern.pattern, pattern.flags)
+        for kind, value in parts:
             runs[-1:] = [runs[-1] + chr(value)] if str(kind) == "LITERAL" else [runs[-1], ""]
         return max(runs, key=len).encode()
     except (ImportError, AttributeError, TypeError, ValueError):

@@ -1,9 +1,11 @@
-"""The texts of values that commands print, and the order in which MongoDB sorts values."""
+"""The texts of values and of rows that commands print, and the order in which MongoDB sorts values."""
 
 from __future__ import annotations
 
+import json
+import re
 from decimal import Decimal
-from typing import Callable, Iterable, Iterator, Sequence, TypeVar
+from typing import Any, Callable, Iterable, Iterator, Sequence, TypeVar
 
 from .._dumps.paths import DECIMAL128, Number, is_finite, number_of
 from .._dumps.runs import texts_of_values
@@ -19,6 +21,10 @@ _DATE, _TIMESTAMP, _BINARY = 0x09, 0x11, 0x05
 NESTED = (0x03, 0x04, 0x0F)
 # What has more digits as a whole number is printed with an exponent.
 _MOST_WHOLE = 1 << 63
+# What JSON leaves as it is, and a terminal may obey.
+_CONTROL = {it: f"\\u{it:04x}" for it in range(0x7F, 0xA0)}
+# A byte that is not UTF-8, as Python has it in the name of a file.
+_BYTE = re.compile("[\udc80-\udcff]")
 # How many values, or bytes of values, are printed by one run.
 _MOST_VALUES, _MOST_BYTES = 10_000, 1 << 22
 
@@ -42,6 +48,19 @@ def texts(values: Sequence[bytes], program: str) -> Iterator[str]:
         for value in some:
             number = number_of(value)
             yield next(printed) if number is None else text_of_number(number)
+
+
+def visible_json(text: str) -> str:
+    """The same JSON without a character that a terminal may obey."""
+    return text.translate(_CONTROL)
+
+
+def line_of_json(row: Any) -> str:
+    """A row or a name as JSON. A byte of a name that is not UTF-8 is `\\xff` there, since half of a surrogate is no text for other readers."""
+    text = json.dumps(row, ensure_ascii=False)
+    if _BYTE.search(text):
+        row = json.loads(_BYTE.sub(lambda byte: f"\\\\x{ord(byte[0]) & 0xFF:02x}", text))
+    return json.dumps(row)
 
 
 def batches(items: Iterable[T], size_of: Callable[[T], int]) -> Iterator[list[T]]:

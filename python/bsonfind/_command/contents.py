@@ -6,13 +6,13 @@ import argparse
 import json
 import os
 import re
-import warnings
 from contextlib import closing
 
 from .._backup.backups import dumps_of
 from .._backup.grep import Hits, Problem, grep_dumps, wanted_of
 from .._backup.info import COLUMNS, info_of
-from .._backup.search import Wanted
+from .._backup.search import Wanted, compiled
+from .._backup.texts import line_of_json, visible_json
 from .._run.processes import processors
 from .arguments import FAILED, FAULTY, GOOD, Refused
 from .console import PATIENCE, Console, Progress, Table
@@ -60,7 +60,7 @@ def print_grep(words: argparse.Namespace, text: str, names: list[str]) -> int:
                 elif words.json:
                     console.documents(_lines(item))
                 else:
-                    table.print([(item.name, it.id or "", it.path, it.value or "") for it in item.rows])
+                    table.print([(item.name, visible_json(it.id or ""), it.path, visible_json(it.value or "")) for it in item.rows])
     table.print((name, str(documents), str(fields)) for name, (documents, fields) in counts.items())
     console.note(f"{documents} documents in {len(found)} of {len(dumps)} files" + (f", {len(failed)} not searched in full" if failed else ""))
     return status
@@ -77,15 +77,13 @@ def _wanted(words: argparse.Namespace, text: str) -> Wanted:
     if words.regex is None:
         return wanted_of(text, words.ignore_case, not words.count)
     try:
-        with warnings.catch_warnings():
-            warnings.simplefilter("ignore")
-            re.compile(text)
+        compiled(text, words.ignore_case)
     except (re.error, OverflowError, RecursionError) as error:
         raise Refused(f"--regex: {error}") from None
     return Wanted(text, True, words.ignore_case, seconds=words.timeout, with_values=not words.count)
 
 
 def _lines(hits: Hits) -> list[bytes]:
-    name = json.dumps(hits.name)
+    name = line_of_json(hits.name)
     lines = (f'{{"file":{name},"id":{it.id or "null"},"path":{json.dumps(it.path)},"value":{it.value or "null"}}}\n' for it in hits.rows)
     return [line.encode() for line in lines]

@@ -6,6 +6,7 @@ An archive is read once, in memory of one piece of it. Nothing is looked at but 
 from __future__ import annotations
 
 import json
+from math import isinf
 from typing import Any, Collection, Iterator, NamedTuple
 
 from .._errors import DumpError
@@ -164,12 +165,36 @@ def why_none(listed: list[Listed], namespace: Namespace) -> str:
 
 
 def parsed(metadata: str | bytes) -> tuple[dict[str, Any] | None, str | None]:
-    """The metadata of a text, or what is wrong with it."""
+    """The metadata of a text, or what is wrong with it. Half of a surrogate is U+FFFD, as mongorestore reads it."""
     try:
-        found = json.loads(metadata)
+        found = json.loads(metadata, parse_constant=_refuse, parse_float=_double)
+        text = json.dumps(found, ensure_ascii=False)
+        if not is_utf8(text):
+            found = json.loads(text.encode("utf-16", "surrogatepass").decode("utf-16", "replace"))
     except (ValueError, RecursionError) as error:
         return None, str(error)
     return (found, None) if isinstance(found, dict) else (None, "not a document")
+
+
+def _refuse(number: str) -> None:
+    """Refuses a number that Python reads, and JSON does not have."""
+    raise ValueError(f"{number} is no number of JSON")
+
+
+def _double(number: str) -> float:
+    double = float(number)
+    if isinf(double):
+        raise ValueError(f"{number[:20]} is out of range")
+    return double
+
+
+def is_utf8(text: str) -> bool:
+    """Whether a text has no half of a surrogate, by which Python keeps bytes that are not UTF-8 too."""
+    try:
+        text.encode()
+    except UnicodeEncodeError:
+        return False
+    return True
 
 
 def kind_of(metadata: dict[str, Any] | None) -> str:
