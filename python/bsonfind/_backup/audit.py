@@ -16,9 +16,9 @@ from .._dumps.runs import Checking
 from .._dumps.sources import Source, Unwatched, Watch
 from .._errors import ArgumentError, BsonfindError, is_finding, why
 from .._run.processes import Group, processors, wide_program
-from .backups import Dump, dumps_of, fault_of_listed, fault_of_metadata, is_inside, namespace_of, place_of, read_log, text_lines
+from .backups import Dump, dumps_of, fault_of_listed, fault_of_metadata, is_inside, namespace_of, place_of
 from .damage import text_of_id
-from .logs import failures_in
+from .logs import failures_in, read_log, text_lines
 from .repeats import Repeats
 from .reports import MOST_FAULTS, Audit, Noting, Report
 from .split import split
@@ -61,6 +61,8 @@ def audit_dumps(
     """Checks dumps, and passes on the report of each as soon as it is there, and the list of its archive; `watch` gets their sizes."""
     log = [] if expect is None else text_lines(expect)
     counts, failures = None if expect is None else read_log(log), failures_in(log)
+    if counts == {} and not failures:
+        raise ArgumentError(f"{os.fsdecode(expect or '')} is no log of mongodump: no line has a count, such as: done dumping db.c (5 documents)")
     wide_program(program)
     sizes = {it.file: it.size or 0 for it in dumps}
     with watch(len(dumps), sum(sizes.values())) as progress:
@@ -187,6 +189,8 @@ class _Checker:
         except (BsonfindError, OSError) as error:
             others = [Report(source.name)]
             self._note(others[0], error)
+        if not (reports or listed or others):
+            others = [Report(source.name, error="no collection is in this archive", is_fault=True)]
         for it in listed:
             if fault := fault_of_listed(it):
                 report_of(it.buckets if it.buckets in reports else it.namespace).metadata = fault

@@ -12,21 +12,18 @@ from pathlib import PurePath
 from typing import Any, Iterable, Iterator
 from urllib.parse import quote, unquote
 
-from .._arguments import File, name_of
 from .._dumps.archive import Listed, kind_of, parsed
 from .._dumps.archive_frames import Namespace, joined_pieces
 from .._dumps.files import STDIN, file_of, is_whole_archive, member_of
 from .._dumps.gzip import unpacked
-from .._dumps.outputs import naming
 from .._errors import DumpError, why
 
 OPLOG = Namespace("", "oplog")
 _ENDING = re.compile(r"\.bson(\.gz)?$")
 _METADATA = re.compile(r"\.metadata\.json(\.gz)?$")
-_DUMPED = re.compile(r"done dumping (\S.*) \((\d+) documents?\)")
-_OPLOG_DUMPED = re.compile(r"dumped (\d+) oplog entr(?:y|ies)")
 # The names of files that mongodump writes beside dumps.
 _BESIDE = re.compile(r"(\.metadata|^prelude)\.json(\.gz)?$")
+_PRELUDE = re.compile(r"^prelude\.json(\.gz)?$")
 # The names that archives have by custom; below a directory each is known by its first bytes.
 _ARCHIVE = re.compile(r"\.archive(\.gz)?$")
 # A file that is not whole, as `unpack` leaves it, and any other name by which a file may hold a dump.
@@ -39,6 +36,8 @@ _UNESCAPED, _LONGEST_STEM, _KEPT, _SHORTENED = "$&+:=@", 238, 208, "%24"
 # metadata has the name of this.
 _BARE = re.compile(r"^(\$admin\..*|system\.indexes)\.bson")
 _BUCKETS = "system.buckets."
+# How Python keeps bytes that are not UTF-8 in a text.
+_BYTES = "surrogateescape"
 # What is read of a file of metadata at most: mongodump writes some hundred bytes, and as many for each index.
 _LONGEST_METADATA = 1 << 23
 
@@ -75,6 +74,17 @@ def dumps_of(names: Iterable[str]) -> list[Dump]:
             if first is dump and not dump.error:
                 _look_at(dump)
     return list(dumps.values())
+
+
+def each_once(names: Iterable[str]) -> dict[str, str]:
+    """The names, each with the first one of the same file: it is the name itself, unless this file was named before."""
+    found: dict[object, str] = {}
+    firsts: dict[str, str] = {}
+    for name in names:
+        dump = Dump(name)
+        _look_at(dump)
+        firsts[name] = found.setdefault(dump.file or name, name)
+    return firsts
 
 
 def _look_at(dump: Dump) -> None:
@@ -156,25 +166,6 @@ def _missing_dump(entry: os.DirEntry[str], directory: str, stems: set[str]) -> D
     return Dump(os.path.join(directory, f"{wanted}.bson"), error=f"missing: only {entry.name} is there", is_fault=True)
 
 
-def text_lines(path: File) -> list[str]:
-    """The lines of a file; bytes that are not UTF-8 stay as they are in names."""
-    name = name_of(path)
-    with naming(name), open(name, encoding="utf-8", errors="surrogateescape", newline="\n") as file:
-        return file.read().split("\n")
-
-
-def read_log(lines: Iterable[str]) -> dict[str, int]:
-    """How many documents of each collection the log of mongodump reports, and at last how many entries of the oplog."""
-    documents: dict[str, int] = {}
-    oplog: dict[str, int] = {}
-    for line in lines:
-        if found := _DUMPED.search(line):
-            documents[found.group(1).replace("`", "")] = int(found.group(2))
-        elif found := _OPLOG_DUMPED.search(line):
-            oplog = {"oplog": int(found.group(1))}
-    return {**documents, **oplog}
-
-
 def namespace_of(name: str) -> Namespace:
     """The database and the collection whose dump a file is: by its directory, and by the metadata, since long names are shortened."""
     if name == "-":
@@ -185,7 +176,7 @@ def namespace_of(name: str) -> Namespace:
     directory, base = os.path.split(os.path.abspath(name))
     stem = member.namespace.collection if member else stem_of_file(base)
     if stem.startswith("$admin."):
-        return Namespace.of(unquote(stem[1:]))  # The users and roles of one database are dumped beside it.
+        return Namespace.of(_unescaped(stem[1:]))  # The users and roles of one database are dumped beside it.
     return member.namespace if member else Namespace(os.path.basename(directory), collection_of(name, read_metadata(name)[0]))
 
 
@@ -204,11 +195,11 @@ def is_inside(place: str, places: set[str]) -> bool:
 
 def stem_of(namespace: Namespace) -> str:
     """The name of a file by mongodump for a collection, without an ending: at the top if the database is empty or begins with "$"."""
-    escaped = quote(namespace.collection, _UNESCAPED)
+    escaped = quote(namespace.collection, _UNESCAPED, errors=_BYTES)
     if len(escaped) > _LONGEST_STEM:
-        digest = urlsafe_b64encode(sha1(namespace.collection.encode()).digest()).decode().rstrip("=")
+        digest = urlsafe_b64encode(sha1(namespace.collection.encode(errors=_BYTES)).digest()).decode().rstrip("=")
         escaped = f"{escaped[:_KEPT]}{_SHORTENED}{digest}"
-    return escaped if is_at_top(namespace) else os.path.join(os.fsdecode(namespace.database.encode()), escaped)
+    return escaped if is_at_top(namespace) else os.path.join(os.fsdecode(namespace.database.encode(errors=_BYTES)), escaped)
 
 
 def stem_wanted(path: str, metadata: dict[str, Any] | None) -> str | None:
@@ -224,7 +215,12 @@ def stem_wanted(path: str, metadata: dict[str, Any] | None) -> str | None:
 def collection_of(path: str, metadata: dict[str, Any] | None) -> str:
     """The name of the collection of a dump or of metadata, by the metadata or else by the name of the file."""
     collection = (metadata or {}).get("collectionName")
-    return collection if isinstance(collection, str) else unquote(stem_of_file(_METADATA.sub("", os.path.basename(path))))
+    return collection if isinstance(collection, str) else _unescaped(stem_of_file(_METADATA.sub("", os.path.basename(path))))
+
+
+def _unescaped(stem: str) -> str:
+    """The name of which a file has the name; bytes that are not UTF-8 stay as they are in names."""
+    return unquote(stem, errors=_BYTES)
 
 
 def metadata_below(directory: str) -> Iterator[tuple[str, dict[str, Any] | None, str | None]]:
@@ -232,6 +228,12 @@ def metadata_below(directory: str) -> Iterator[tuple[str, dict[str, Any] | None,
     for inner, _, names in os.walk(directory):
         for path in sorted(os.path.join(inner, it) for it in names if _METADATA.search(it)):
             yield path, *read_metadata_file(path)
+
+
+def preludes_below(directory: str) -> Iterator[str]:
+    """The files below a directory in which mongodump says which versions of it and of the server wrote the dumps."""
+    for inner, _, names in os.walk(directory):
+        yield from sorted(os.path.join(inner, it) for it in names if _PRELUDE.search(it))
 
 
 def is_oplog(name: str) -> bool:

@@ -9,6 +9,7 @@ import json
 import re
 from typing import Callable
 
+from .._dumps.archive import is_utf8
 from .._dumps.elements import value_at
 from .._dumps.framing import documents_taken
 from .._dumps.paths import key_of
@@ -36,6 +37,8 @@ def ids_of(lines: list[str], name: str, program: str) -> dict[object, str]:
     texts: list[tuple[int, str, str]] = []
     for number, line in enumerate(lines, 1):
         text = line.strip()
+        if not text.isascii() and not is_utf8(text):
+            raise IdError(f"{name}: line {number}: not UTF-8")
         if text:
             name_of_kind = "$oid" if _OID.fullmatch(text) else "$uuid" if _UUID.fullmatch(text) else None
             text = f'{{"{name_of_kind}":"{text}"}}' if name_of_kind else text

@@ -187,9 +187,9 @@ def _run_audit(words: argparse.Namespace) -> int:
 
 def _names_in(words: argparse.Namespace) -> list[str]:
     """The names that are given, and those of a list."""
-    from .._backup.backups import text_lines
+    from .._backup.logs import text_lines
 
-    names = list(words.files)
+    names, texts = list(words.files), [words.list, getattr(words, "expect", None)]
     for number, name in enumerate(text_lines(words.list) if words.list else (), 1):
         if "\0" in name:
             raise Refused(f"{words.list}: line {number} has a zero byte; each line is a name")
@@ -197,6 +197,8 @@ def _names_in(words: argparse.Namespace) -> list[str]:
             names.append(name)
     if not names:
         raise Refused("no dump is named")
+    if texts.count("-") + ("-" in names and "-" in texts) > 1:
+        raise Refused("standard input is named twice")
     return names
 
 
@@ -207,6 +209,7 @@ def _run_salvage(words: argparse.Namespace) -> int:
     console, name = Console(), words.file
     if (words.out is None) == (words.good is None and words.bad is None) or (words.good is None) != (words.bad is None):
         raise Refused("salvage takes --good and --bad for a dump, or --out for a directory or an archive")
+    say = console.line if words.out is not None else console.report_beside(words.good, words.bad)
     with Progress(console) as progress:
         if words.out is not None:
             done = salvage_backup(name, words.out, words.program, console.line, progress.over)
@@ -218,7 +221,7 @@ def _run_salvage(words: argparse.Namespace) -> int:
             words.good,
             words.bad,
             program=words.program,
-            say=lambda text: console.line(f"{name}: {text}"),
+            say=lambda text: say(f"{name}: {text}"),
             progress=progress.over,
         )
     return GOOD if one.is_good else FAULTY
@@ -301,17 +304,21 @@ def _run_show(words: argparse.Namespace) -> int:
 def _run_ids(words: argparse.Namespace) -> int:
     from contextlib import ExitStack
 
-    from .._backup.backups import text_lines
+    from .._backup.logs import text_lines
     from .._backup.ids import find_ids, ids_of
-    from .._dumps.outputs import Output, refuse_names
+    from .._dumps.outputs import Output, goes_to, refuse_names
 
     console = Console()
+    _refuse_twice([words.file, words.ids])
     ids = ids_of(text_lines(words.ids), words.ids, words.program)
     with ExitStack() as files:
         output = None
         if words.missing is not None:
-            refuse_names(words.file, words.missing, words.ids)
-            rights = os.stat(words.ids).st_mode
+            if goes_to(words.missing, 1):
+                raise Refused(f"{words.missing}: it is standard output, which has the documents")
+            listed = "/dev/stdin" if words.ids == "-" else words.ids
+            refuse_names(words.file, words.missing, listed)
+            rights = os.stat(listed).st_mode
             # It is opened first: if it cannot be written no document is printed.
             output = files.enter_context(Output(words.missing, stat.S_IMODE(rights) if stat.S_ISREG(rights) else None))
         missing = find_ids(words.file, ids, words.program, console.documents, is_bson=words.bson)

@@ -7,10 +7,12 @@ import threading
 import time
 from contextlib import contextmanager
 
+from .._errors import ArgumentError
+
 # As `typing.TYPE_CHECKING`, without `typing`, which takes long to import.
 TYPE_CHECKING = False
 if TYPE_CHECKING:
-    from typing import Iterable, Iterator, Sequence
+    from typing import Callable, Iterable, Iterator, Sequence
 
     from .._dumps.sources import Source
 
@@ -74,6 +76,17 @@ class Console:
             self._clear()
             if sys.stderr is not None:
                 print(visible(text), file=sys.stderr, flush=True)
+
+    def report_beside(self, *outputs: str) -> Callable[[str], None]:
+        """What prints a report beside files: on standard error, where one of them is standard output."""
+        from .._dumps.outputs import goes_to
+
+        if not any(goes_to(it, 1) for it in outputs):
+            return self.line
+        for name in outputs:
+            if goes_to(name, 2):
+                raise ArgumentError(f"{name} is standard output and standard error: the report would be among the documents")
+        return self.note
 
     def progress(self, text: str) -> None:
         """Prints how far it is, in place of what was printed before; nothing where standard error is no terminal."""

@@ -5,8 +5,8 @@ from __future__ import annotations
 import errno
 import os
 import stat
-from contextlib import AbstractContextManager, contextmanager
-from typing import Iterator
+from contextlib import AbstractContextManager, contextmanager, suppress
+from typing import Iterator, Sequence
 
 from .._errors import ArgumentError, FileError
 from .files import file_of
@@ -17,6 +17,7 @@ _NO_LINKS = (errno.EPERM, errno.EOPNOTSUPP, errno.ENOSYS)
 
 def refuse_names(dump: str, good: str, bad: str) -> None:
     """Refuses files that are the dump, or one another, by whatever names."""
+    good, bad = ("/dev/stdout" if it == "-" else it for it in (good, bad))
     for name in (good, bad):
         # For `-` the dump is the file that standard input has open.
         if os.path.exists(name) and os.path.samefile(name, 0) if dump == "-" else is_same(name, file_of(dump)):
@@ -42,13 +43,19 @@ def naming(name: str) -> Iterator[None]:
 
 
 class Output(AbstractContextManager["Output"]):
-    """A file that is written under another name beside it, and gets its name at the end. A device or pipe is written as it is."""
+    """A file that is written under another name beside it, and gets its name at the end. A device or pipe is written as it is.
+
+    The name `-` is that of standard output.
+    """
 
     def __init__(self, name: str, mode: int | None = None) -> None:
-        """A file that is there keeps its rights; a new one may be given those of what it is a copy of."""
+        """A file that is there keeps its owner and its rights; a new one may be given those of what it is a copy of."""
         self.name = name
         self._path = self._beside = os.path.realpath(name)
         with naming(self.name):
+            if name == "-":
+                self._file = open(os.dup(1), "wb")
+                return
             if not name:
                 raise OSError(errno.ENOENT, "an empty name")  # such as of a variable that is not set
             if os.path.isdir(name) or name.endswith(os.sep):
@@ -61,12 +68,18 @@ class Output(AbstractContextManager["Output"]):
             if there and _is_standard_output(there):
                 raise OSError(errno.EBUSY, "it is standard output", name)
             self._beside = os.path.join(os.path.dirname(self._path), f".{os.urandom(8).hex()}.new")
-            self._create(stat.S_IMODE(there.st_mode) if there else mode)
+            self._create(stat.S_IMODE(there.st_mode) if there else mode, there)
 
-    def _create(self, mode: int | None) -> None:
-        """Opens the new file, with these rights; before that no other user can. One that cannot have them is not left."""
+    def _create(self, mode: int | None, there: os.stat_result | None = None) -> None:
+        """Opens the new file, with these rights; before that no other user can. One that cannot have them is not left.
+
+        It has the owner of the file that it replaces, if this user may give it away.
+        """
         self._file = open(self._beside, "xb", opener=None if mode is None else lambda name, flags: os.open(name, flags, 0o600))
         try:
+            if there:
+                with suppress(PermissionError):  # Then it is this user's, as any new file.
+                    os.fchown(self._file.fileno(), there.st_uid, there.st_gid)
             if mode is not None:
                 os.fchmod(self._file.fileno(), mode)
         except OSError:
@@ -145,15 +158,24 @@ class NewOutput(Output):
         self._path = self._beside
 
 
-def _is_standard_output(there: os.stat_result) -> bool:
+def _is_standard_output(there: os.stat_result, numbers: Sequence[int] = (1, 2)) -> bool:
     """Whether a file is what standard output or standard error is written to: it would be replaced, and what is printed lost."""
-    for number in (1, 2):
+    for number in numbers:
         try:
             if os.path.samestat(os.fstat(number), there):
                 return True
         except OSError:
             continue  # It is closed.
     return False
+
+
+def goes_to(name: str, number: int) -> bool:
+    """Whether what is written to a name comes among what is printed on standard output, 1, or standard error, 2. A device keeps nothing."""
+    try:
+        there = os.fstat(1) if name == "-" else os.stat(name)
+    except OSError:
+        return False  # A new file, or what cannot be written.
+    return name == "-" and number == 1 or not stat.S_ISCHR(there.st_mode) and _is_standard_output(there, [number])
 
 
 def refuse_there(*names: str) -> None:
