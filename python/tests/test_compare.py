@@ -11,6 +11,7 @@ from typing import List, Tuple
 from unittest import mock
 
 from bsonfind._backup.compare import CompareError, Pair, Sorter, compare
+from bsonfind._dumps.elements import values_at
 
 from .archives import archive
 from .bson import document, field, int32, text
@@ -71,10 +72,43 @@ class Compares(Room):
         two = self.dump(*lines, name="two.bson")
         found = self.compared(one, two, "--by", "a.b", status=1)
         self.assertEqual(
-            found[:4],
-            ["without a.b: 1 and 1 documents, 1 removed, 1 added", 'removed "x"', 'added "y\\t"', 'changed [{"$numberInt":"1"}]'],
-        )
-        self.assertEqual(found[4:], self.rows(one, two, (3, 3), 0, 1, 2, 2, more=(("without a.b", 2),)))
+            found[:5],
+            [
+                "without a.b: 1 and 0 documents, 1 removed, 0 added", 'removed "x"', 'added "y\\t"', 'changed [{"$numberInt":"1"}]',
+                'added {"$numberInt":"1"}',
+            ],
+        )  # fmt: skip
+        self.assertEqual(found[5:], self.rows(one, two, (3, 3), 0, 1, 2, 2, more=(("without a.b", 1),)))
+
+    def test_paths_through_arrays(self) -> None:
+        """A path leads where a query leads: into each document of an array, and to the element at a position; several values are an array."""
+        one, two = self.dump('{"a":[{"b":1}],"c":1}', name="one.bson"), self.dump('{"a":[{"b":1}],"c":2}', name="two.bson")
+        for path in ("a.b", "a.0.b"):
+            self.assertEqual(self.compared(one, two, "--by", path, status=1)[0], 'changed {"$numberInt":"1"}')
+        one, two = self.dump('{"t":["x",[7]],"a":[{"b":1},{"b":2}]}', name="one.bson"), self.dump('{"a":[{"b":1},{"b":2}],"t":["x",[7]]}', name="two.bson")
+        for path, key in (("t.0", '"x"'), ("t.1.0", '{"$numberInt":"7"}'), ("a.b", '[{"$numberInt":"1"},{"$numberInt":"2"}]')):
+            self.assertEqual(self.compared(one, two, "--by", path, status=1)[0], f"changed {key}")
+        for path in ("t.00", "t.2", "a.2.b"):
+            self.assertEqual(self.compared(one, two, "--by", path, status=1)[0], f"without {path}: 1 and 1 documents, 1 removed, 1 added")
+        self.assertEqual(self.compared(one, two, "--by", "", status=2, told='bsonkit: path "": empty component\n'), [])
+
+    def test_values_of_damaged_documents(self) -> None:
+        """A path is followed before a document is checked, up to what is no field."""
+        data, rng = document(field(0x04, "a", document(field(0x03, "0", document(field(0x10, "b", int32(1))))))), random.Random(1)
+        for _ in range(20_000):
+            damaged = bytearray(data)
+            damaged[rng.randrange(len(data))] = rng.randrange(256)
+            damaged[rng.randrange(len(data))] = rng.choice((0, 3, 4, 255))
+            for names in ([b"a", b"b"], [b"a", b"0", b"b"]):
+                self.assertLessEqual(len(values_at(bytes(damaged), names)), 2)
+
+    def test_no_directory_for_temporary_files(self) -> None:
+        with mock.patch("tempfile.TemporaryFile", side_effect=FileNotFoundError(2, "No usable temporary directory found")), \
+                mock.patch("tempfile.gettempdir", side_effect=FileNotFoundError(2, "No usable temporary directory found")), \
+                mock.patch("bsonfind._backup.compare._MOST_LINES", 10), self.assertRaises(CompareError) as raised:  # fmt: skip
+            compare(Pair("people", str(PEOPLE), str(PEOPLE)), "_id", PROGRAM, print)
+        told = "No usable temporary directory found: cannot sort: no directory takes temporary files: TMPDIR names one"
+        self.assertEqual(str(raised.exception), f"{PEOPLE}: {told}")
 
     def test_keys_of_several_documents(self) -> None:
         one = self.dump('{"_id":1,"a":1}', '{"_id":1,"a":2}', '{"_id":1,"a":2}', '{"_id":2}', '{"a":1}', name="one.bson")

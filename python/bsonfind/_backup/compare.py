@@ -10,12 +10,14 @@ from contextlib import AbstractContextManager, suppress
 from hashlib import blake2b
 from typing import IO, Callable, Iterable, Iterator, NamedTuple, Sequence
 
-from .._dumps.elements import value_at
+from .._dumps.elements import array_of, value_at, values_at
+from .._dumps.originals import in_temporary
+from .._dumps.paths import Path
 from .._dumps.runs import each_document, texts_of_values
 from .._dumps.sources import Source
 from .._errors import BsonfindError, ProgramError, why
 from .backups import dumps_below
-from .texts import batches
+from .texts import batches, visible_json
 
 # How documents differ, in the order in which they are counted.
 KINDS = ("same", "changed", "removed", "added")
@@ -88,11 +90,12 @@ def names_below(directory: str, problems: list[CompareError]) -> dict[str, str]:
 def compare(pair: Pair, path: str, program: str, say: Callable[[str], None]) -> Comparison:
     """Compares the documents of two dumps, which belong together by the value at a path; `say` gets what differs.
 
-    Documents are the same if their bytes are, and so are values. The order of documents does not count, that of fields does.
+    Documents are the same if their bytes are, and so are values. The order of documents does not count, that of fields does. Where
+    the path leads through an array to several values, they are one array.
     """
+    names = Path(path).names()
     if pair.first is None or pair.second is None:
         return _one_alone(pair, program, say)
-    names = [name.encode() for name in path.split(".")]
     documents = [0, 0]
     with Sorter() as sorter:
         for side, name in enumerate((pair.first, pair.second)):
@@ -109,7 +112,7 @@ def line_of(document: bytes, names: Sequence[bytes], side: int) -> bytes:
 
     The key comes first, in digits, so that lines are sorted by it. Documents without a key come before all others.
     """
-    key = (value_at(document, names) or b"").hex().encode()
+    key = _key_of(document, names).hex().encode()
     return b"%s\t%s\t%d\n" % (key, blake2b(document, digest_size=16).hexdigest().encode(), side)
 
 
@@ -122,9 +125,18 @@ def compared(
         values = [bytes.fromhex(key.decode()) for _, key, _ in some if key]
         texts = iter(texts_of_values(values, program))
         for before, key, after in some:
-            say(f"{before}{next(texts) if key else ''}{after}")
+            say(f"{before}{visible_json(next(texts)) if key else ''}{after}")
     repeated, without = counts.pop("repeated", 0), counts.pop("without", 0)
     return Comparison(documents, counts, repeated, without)
+
+
+def _key_of(document: bytes, names: Sequence[bytes]) -> bytes:
+    """The value by which a document belongs to others, which is empty if the path leads to none."""
+    value = value_at(document, names)
+    if value is None:
+        values = values_at(document, names)
+        return values[0] if len(values) == 1 else array_of(values) if values else b""
+    return value
 
 
 def _differences(lines: Iterator[bytes], path: str, counts: Counter[str]) -> Iterator[tuple[str, bytes, str]]:
@@ -238,7 +250,7 @@ class Sorter(AbstractContextManager["Sorter"]):
             run.writelines(lines)
             run.seek(0)
         except OSError as error:
-            raise ProgramError(f"cannot sort in {tempfile.gettempdir()}: {error.strerror}: TMPDIR names another directory") from error
+            raise ProgramError(f"{error.strerror}: cannot sort{in_temporary()}") from error
 
     def __exit__(self, *_: object) -> None:
         _close(self._runs)

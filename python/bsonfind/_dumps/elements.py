@@ -68,6 +68,57 @@ def value_at(document: bytes, names: Sequence[bytes]) -> bytes | None:
     return found
 
 
+def values_at(document: bytes, names: Sequence[bytes]) -> list[bytes]:
+    """The types and the bytes of all values to which names lead as in a query: from an array into each document in it, or by its position.
+
+    Of an array at the end these are its elements. A document may have a fault: then they are those before it.
+    """
+    found: list[bytes] = []
+    _follow(document, 4, len(document) - 1, names, found)
+    return found
+
+
+def array_of(values: Sequence[bytes]) -> bytes:
+    """The type and the bytes of an array of values."""
+    body = b"".join(it[:1] + b"%d\0" % number + it[1:] for number, it in enumerate(values))
+    return bytes([ARRAY]) + (len(body) + 5).to_bytes(4, "little") + body + b"\0"
+
+
+def _elements(data: bytes, at: int, end: int) -> Iterator[tuple[int, bytes, int, int]]:
+    """The elements between two places, up to what is none: the type, the name, and where the value begins and ends."""
+    while at < end:
+        kind, zero = data[at], data.find(b"\0", at + 1)
+        stop = value_end(data, kind, zero + 1) if zero > 0 else None
+        if stop is None or stop > end:
+            return
+        yield kind, data[at + 1 : zero], zero + 1, stop
+        at = stop
+
+
+def _follow(data: bytes, at: int, end: int, names: Sequence[bytes], found: list[bytes]) -> None:
+    """Follows names from a document, by the first field of the first name."""
+    for kind, name, start, stop in _elements(data, at, end):
+        if name == names[0]:
+            _follow_value(data, kind, start, stop, names[1:], found)
+            return
+
+
+def _follow_value(data: bytes, kind: int, start: int, stop: int, names: Sequence[bytes], found: list[bytes]) -> None:
+    elements = list(_elements(data, start + 4, stop - 1)) if kind == ARRAY else []
+    if names and kind == DOCUMENT:
+        _follow(data, start + 4, stop - 1, names, found)
+    elif names:
+        for number, (inner, _, begin, end) in enumerate(elements):
+            if inner == DOCUMENT:
+                _follow(data, begin + 4, end - 1, names, found)
+            if names[0] == b"%d" % number:
+                _follow_value(data, inner, begin, end, names[1:], found)
+    elif elements:
+        found += [bytes([inner]) + data[begin:end] for inner, _, begin, end in elements]
+    else:
+        found.append(bytes([kind]) + data[start:stop])
+
+
 def document_with(name: bytes, value: bytes) -> bytes:
     """The document that has one field, with a value as `value_at` gives it."""
     return (len(name) + len(value) + 6).to_bytes(4, "little") + value[:1] + name + b"\0" + value[1:] + b"\0"

@@ -51,6 +51,9 @@ class Path:
     def __str__(self) -> str:
         return self._text
 
+    def names(self) -> list[bytes]:
+        return [name[:-1] for name, _ in self._names]
+
     def values(self, document: bytes) -> list[bytes]:
         """The values to which it leads, each as its type and its bytes: of an array the elements."""
         found: list[bytes] = []
