@@ -103,7 +103,7 @@ class Counts(Room):
         inside = self.file(archive([("club", "people", PEOPLE.read_bytes()), ("shop", "orders", SHOP.read_bytes())]), "a.archive")
         empty = self.file(b"", "empty.bson")
         for names, documents in (
-            ([PEOPLE], 500), ([packed], 400), ([f"{inside}::shop.orders"], 400), ([PEOPLE, packed, PEOPLE, f"{inside}::club.people"], 1900),
+            ([PEOPLE], 500), ([packed], 400), ([f"{inside}::shop.orders"], 400), ([PEOPLE, packed, f"{inside}::shop.orders", f"{inside}::club.people"], 1800),
             ([empty], 0),
         ):  # fmt: skip
             self.assertEqual(self.count(*names), [[str(documents)]])
@@ -120,7 +120,37 @@ class Counts(Room):
             for it in lists:
                 wanted = counted(lines, it)
                 self.assertEqual(self.counts(path, "--by", it), wanted, it)
-                self.assertEqual(self.counts(path, path, "--by", it), Counter({value: 2 * count for value, count in wanted.items()}))
+                copy = self.file(path.read_bytes(), "copy.bson")
+                self.assertEqual(self.counts(path, copy, "--by", it), Counter({value: 2 * count for value, count in wanted.items()}))
+
+    def test_control_characters(self) -> None:
+        """A value in a table is JSON, in which no character is a command for a terminal; a line of JSON has it as dump prints it."""
+        path = self.file(dump(field(0x02, "v", text("a\x7fb")), field(0x02, "v", text("a\u0085b\u009f"))))
+        other = self.file(dump(field(0x10, "v", int32(1))), "other.bson")
+        cells = {'"a\\u007fb"', '"a\\u0085b\\u009f"'}
+        self.assertEqual({value for value, _ in self.count(path, "--by", "v")}, cells)
+        self.assertEqual({line.split("\t")[3] for line in run_package("grep", "a", str(path)).stdout.splitlines()}, cells)
+        self.assertEqual({it.split(" ", 1)[1] for it in run_package("compare", str(path), str(other), "--by", "v").stdout.splitlines()[:2]}, cells)
+        self.assertIn(run_package("schema", str(path)).stdout.split("\t")[2], cells)
+        for words in (["count", "--by", "v"], ["grep", "a"]):
+            printed = run_package(*words, str(path), "--json").stdout
+            self.assertIn('"a\x7fb"', printed)
+            self.assertEqual({json.loads(it)["value"] for it in printed.split("\n") if it}, {"a\x7fb", "a\u0085b\u009f"})
+
+    def test_files_that_are_named_twice(self) -> None:
+        """Each document is counted once, also of a file by another name, as in a backup that is named with a file in it."""
+        path, inside = self.file(SHOP.read_bytes(), "a/shop.bson"), self.file(archive([("shop", "a", SHOP.read_bytes())]), "all.archive")
+        other, link = f"{path.parent}/../a/shop.bson", self.room / "link.bson"
+        link.symlink_to(path)
+        note = "{}: the same file as {}, which counts once\n"
+        for names, told in (
+            ((path, path), ""), ((path, other, link), note.format(other, path) + note.format(link, path)),
+            ((f"{inside}::shop.a", f"{self.room}/./all.archive::shop.a"), note.format(f"{self.room}/./all.archive::shop.a", f"{inside}::shop.a")),
+        ):  # fmt: skip
+            run = run_package("count", *map(str, names))
+            self.assertEqual((run.returncode, run.stdout, run.stderr), (0, "400\n", told))
+            run = run_package("schema", *map(str, names))
+            self.assertEqual((run.returncode, run.stderr), (0, f"{told}400 documents\n"))
 
     def test_numbers_of_one_value(self) -> None:
         """Of all types; what differs by less than a double is another value; NaN is one, whatever its bytes are."""

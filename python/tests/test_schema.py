@@ -163,7 +163,7 @@ class Schemas(Room):
         for _ in range(300):
             parts = []
             for name in rng.sample(range(40), 5):
-                deep = [(f"k{rng.randrange(60)}", rng.choice([(0x10, int32(1)), (0x0A, b""), (0x08, b"\1")])) for _ in range(3)]
+                deep = [(f"k{key}", rng.choice([(0x10, int32(1)), (0x0A, b""), (0x08, b"\1")])) for key in rng.sample(range(60), 3)]
                 parts.append(field(0x03, f"n{name}", document(*(field(kind, key, data) for key, (kind, data) in deep))))
                 wanted.update(NAMES[kind] for _, (kind, _) in deep)
             documents.append(document(*parts))
@@ -220,6 +220,26 @@ class Schemas(Room):
         command = [*COMMAND, "schema", str(path), "--json"]
         run = subprocess.run(command, env=env, capture_output=True)
         self.assertEqual(run.stdout.decode(), '{"path":"Größe 東","types":{"int":1},"least":1,"greatest":1,"example":1}\n')
+
+    def test_names_that_look_like_paths(self) -> None:
+        """Each field has its own path: such a name is in quotation marks."""
+        names = ["a.b", "a[]", "a", "*", 'q"', "b"]
+        path = self.file(document(*(field(0x03, name, document(field(0x04, "b", document(field(0x10, "0", int32(1)))))) for name in names)))
+        wanted = [it for name in ('"a.b"', '"a[]"', "a", '"*"', '"q\\""', "b") for it in (name, f"{name}.b", f"{name}.b[]")]
+        self.assertEqual(list(self.schema(path, told="1 documents\n")), wanted)
+        self.assertEqual([it["path"] for it in self.lines(path)], wanted)
+
+    def test_names_that_are_there_twice(self) -> None:
+        """The first field of a name is that of a query, so it alone is counted: a field that a document lacks is not in all."""
+        twice = document(field(0x10, "a", int32(1)), field(0x03, "a", document(field(0x10, "b", int32(1)))), field(0x02, "a", text("x")))
+        inside = document(field(0x03, "d", document(field(0x10, "b", int32(3)), field(0x10, "b", int32(4)))))
+        path = self.file(twice + document(field(0x10, "_id", int32(1))) + inside)
+        self.assertEqual(self.schema(path, told="3 documents\n"), {
+            "a": ["missing 66.7%, int 33.3%", "1", "1", "1"], "_id": ["missing 66.7%, int 33.3%", "1", "1", "1"],
+            "d": ["missing 66.7%, object 33.3%", "", "", ""], "d.b": ["int 100%", "3", "3", "3"],
+        })  # fmt: skip
+        for query, count in (('{"a":1}', "1\n"), ('{"a":"x"}', "0\n"), ('{"d.b":4}', "0\n")):
+            self.assertEqual(run_package("count", str(path), "--query", query).stdout, count)
 
     def test_output_that_no_one_reads(self) -> None:
         self.want_broken_pipe("schema", str(PEOPLE))

@@ -7,7 +7,7 @@ from collections import deque
 from contextlib import closing
 from typing import Callable, Iterable, List
 
-from .._dumps.framing import LONGEST, documents_taken, inputs
+from .._dumps.framing import LONGEST, documents_taken, inputs, up_to_wrong_length
 from .._dumps.runs import Batches, all_faults, checking
 from .._dumps.sources import Source, Watch, up_to_error
 from .._errors import DumpError, is_finding, why
@@ -47,8 +47,12 @@ class Reading:
         """The documents without a fault. While some are taken the next ones are checked."""
         noting, errors, documents, size = Noting(report, MOST_FAULTS), list[Exception](), 0, 0
         ahead: deque[_Batch] = deque()
+        passing, left = up_to_error(source.pieces(), errors), list[DumpError]()
+        if source.size is None:
+            # What comes after a wrong length is not waited for.
+            passing = up_to_wrong_length(passing, left)
         try:
-            for offset, first, pieces in inputs(up_to_error(source.pieces(), errors), self._most):
+            for offset, first, pieces in inputs(passing, self._most):
                 data, count = _joined(pieces, self._most)
                 size = offset + count
                 ahead.append(_Batch(data, offset, first, self._program, self._group))
@@ -60,7 +64,7 @@ class Reading:
         finally:
             for batch in ahead:
                 batch.run.close()
-            noting.end(documents, size)
+            noting.end(documents, left[0].fault.offset if left and left[0].fault else size)
         noting.look(source, self._program, self._group)
         if errors:
             raise errors[0]

@@ -2,7 +2,9 @@
 
 from __future__ import annotations
 
+import json
 import random
+import re
 from typing import Any, Callable, Iterator, NamedTuple, Sequence, Tuple
 
 from .._dumps.elements import ARRAY, DOCUMENT, SIZES, end_of, length_at
@@ -14,6 +16,8 @@ from .texts import order_of
 MOST_NAMES, MOST_PATHS = 1000, 100_000
 # What a document lacks is counted under this name of a type.
 MISSING = "missing"
+# A name with one of these looks like several names of a path, like elements or like all other names.
+_AMBIGUOUS = re.compile(r'[.\[\]"*]')
 # What is in place of the number of bytes of a value, in a slot.
 _OTHER, _TEXT, _NESTED, _LISTED = -1, -2, -3, -4
 _CODES = {DOCUMENT: _NESTED, ARRAY: _LISTED, **dict.fromkeys(TEXTS, _TEXT)}
@@ -22,9 +26,11 @@ _CODES = {DOCUMENT: _NESTED, ARRAY: _LISTED, **dict.fromkeys(TEXTS, _TEXT)}
 class Field:
     """What is known of the values at a path."""
 
-    __slots__ = ("cells", "slots", "names", "others", "elements")
+    __slots__ = ("cells", "slots", "names", "others", "elements", "seen")
 
     def __init__(self) -> None:
+        # The number of the last document that has it.
+        self.seen = 0
         # By the types of values.
         self.cells: dict[int, Cell] = {}
         # The fields of the documents among the values by their names, or the one for all names if there are too many.
@@ -40,7 +46,7 @@ class Field:
         if self.elements:
             yield "[]", self.elements
         for name, field in self.names.items():
-            yield f".{name.decode()}", field
+            yield f".{_shown(name.decode())}", field
         if self.others:
             yield ".*", self.others
 
@@ -78,7 +84,7 @@ class Field:
         return self.cells, self.names, self.others, self.elements
 
     def __setstate__(self, state: tuple[Any, ...]) -> None:
-        self.slots = {}
+        self.slots, self.seen = {}, 0
         self.cells, self.names, self.others, self.elements = state
 
     def fold(self) -> Field:
@@ -161,6 +167,8 @@ class Looked:
 
     def __init__(self, documents: Sequence[bytes]) -> None:
         self.root, self.paths, self.documents = Field(), 0, len(documents)
+        # How many documents were begun, those in documents too.
+        self._begun = 0
         for document in documents:
             self._fields(self.root, document, 4)
         for field in self.root.all():
@@ -168,8 +176,9 @@ class Looked:
                 cell.look()
 
     def _fields(self, field: Field, data: bytes, at: int) -> int:
-        """Takes the fields of a document, whose first one begins at a byte, and gives where it ends."""
+        """Takes the fields of a document, whose first one begins at a byte, and gives where it ends. Of one name it is the first."""
         slots, find = field.slots, data.find
+        self._begun = number = self._begun + 1
         while data[at]:
             start = find(b"\0", at + 1) + 1
             head = data[at:start]
@@ -177,6 +186,10 @@ class Looked:
                 append, inner, size = slots[head]
             except KeyError:
                 append, inner, size = self._slot(field, head)
+            if inner.seen == number and inner is not field.others:
+                at = end_of(data, head[0], start)
+                continue
+            inner.seen = number
             if size >= 0:
                 at = start + size
                 append(data[start:at])
@@ -237,11 +250,16 @@ class Looked:
         return Field()
 
 
+def _shown(name: str) -> str:
+    """A name as a part of a path: in quotation marks, as JSON has it, where it would be the path of another field."""
+    return json.dumps(name, ensure_ascii=False) if _AMBIGUOUS.search(name) else name
+
+
 def _rows(path: str, field: Field, total: int | None) -> Iterator[Row]:
     """The rows of a field, which as many documents may have, and of those below it. Of elements the number is not known."""
     if not field.cells:
         return  # The elements of arrays that are all empty.
-    cells = sorted(field.cells.values(), key=lambda cell: -cell.count)
+    cells = sorted((it for it in field.cells.values() if it.count), key=lambda cell: -cell.count)
     types = {NAMES[cell.kind]: cell.count for cell in cells}
     missing = 0 if total is None else total - sum(types.values())
     # It has the place that it has by its number.

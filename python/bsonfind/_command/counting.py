@@ -8,10 +8,11 @@ from functools import partial
 from itertools import islice
 from typing import Iterable, Iterator, Sequence
 
+from .._backup.backups import each_once
 from .._backup.count import Count, Row
 from .._backup.reading import Reading, Take
 from .._backup.schema import Looked, Row as PathRow, Schema
-from .._backup.texts import texts
+from .._backup.texts import texts, visible_json
 from .._backup.workers import Spread
 from .._dumps.paths import Number, Path, is_finite
 from .._run.processes import wide_program
@@ -67,9 +68,14 @@ class Counting:
     def _read(self, take: Take, most: int | None = None) -> tuple[int, bool]:
         """Reads the dumps, says what is wrong with them, and gives the status, and whether one was read."""
         reading, status = Reading(self._program, most), GOOD
-        with Progress(self._console, len(self._names), after=PATIENCE) as progress:
-            for name in self._names:
+        firsts = each_once(self._names)
+        names = [name for name, first in firsts.items() if name == first]
+        with Progress(self._console, len(names), after=PATIENCE) as progress:
+            for name in names:
                 reading.read(name, take, progress)
+        for name, first in firsts.items():
+            if name != first:
+                self._console.note(f"{name}: the same file as {first}, which counts once")
         for report in reading.reports:
             if not report.is_good:
                 for line in report.lines():
@@ -90,9 +96,13 @@ class Counting:
     def _counts(self, rows: Sequence[Row]) -> Iterator[Cells]:
         values = texts([row.value for row in rows if row.value], self._program)
         for row in rows:
-            value = () if row.value is None else (next(values) if row.value else "" if self._is_json else _MISSING,)
+            value = () if row.value is None else (self._cell(next(values)) if row.value else "" if self._is_json else _MISSING,)
             sums = () if row.sum is None else (self._sum(row.sum.value()), *map(str, (row.sum.nans, row.sum.infinities, row.sum.others)))
             yield (*value, str(row.documents), *sums)
+
+    def _cell(self, value: str) -> str:
+        """A value as `dump` prints it, in a table without a character that a terminal may obey."""
+        return value if self._is_json else visible_json(value)
 
     def _sum(self, number: Number) -> str:
         """The text of a sum, which as JSON has its type where that is no number of JSON."""
@@ -106,7 +116,7 @@ class Counting:
         for row in rows:
             path = json.dumps(row.path, ensure_ascii=False) if self._is_json else row.path
             types = json.dumps(row.types, separators=(",", ":")) if self._is_json else ", ".join(_shares(row.types))
-            yield (path, types, *("" if it is None else next(values) for it in row[2:]))
+            yield (path, types, *("" if it is None else self._cell(next(values)) for it in row[2:]))
 
 
 def _shares(types: dict[str, int]) -> Iterable[str]:

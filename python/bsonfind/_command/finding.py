@@ -6,7 +6,7 @@ import argparse
 import os
 import subprocess
 import sys
-from typing import Sequence
+from typing import Iterator, Sequence
 
 from .._ask.lines import counted, finding
 from .._ask.requests import Request
@@ -60,17 +60,17 @@ class Finding:
         if self.batch is not None or self.after is not None:
             raise DumpError(f"{name}, and is asked by parts: leave --batch and --after out")
         self._try()
+        if "--count" in self.form:
+            # Only all matches together are skipped and limited.
+            matching = sum(self._ask_parts(source, Request(self.request.filter), "--count", subprocess.DEVNULL))
+            left = max(matching - self.request.skip, 0)
+            documents = min(left, self.request.limit or left)
+            console.documents([b"%d\n" % documents])
+            console.note(f"{documents} documents, end")
+            return
         with temporary_file() as found:
-            for part in source.inputs(MOST):
-                with self._run(part.dump, self.request.of_part(), "--bson", stdout=found.fileno()) as run:
-                    try:
-                        counted(run)
-                    except DumpError as error:
-                        raise error.moved(part.first, part.offset) from None
-                    except ProgramError as error:
-                        if str(error) != CANNOT_WRITE:
-                            raise
-                        raise ProgramError(f"cannot write what is found{in_temporary()}") from error
+            for _ in self._ask_parts(source, self.request.of_part(), "--bson", found.fileno()):
+                pass
             if os.fstat(found.fileno()).st_size > LARGEST_INPUT:
                 raise DumpError(f"{name}, and so do the documents that are found: ask for fewer")
             found.seek(0)
@@ -78,6 +78,19 @@ class Finding:
             with self._run(Dump(file=found), self.request, *self.form, stdout=sys.stdout.fileno()) as run:
                 # It has a token of what was joined, which leads nowhere in the file.
                 console.note(f"{counted(run).documents} documents, end")
+
+    def _ask_parts(self, source: Source, request: Request, option: str, stdout: int) -> Iterator[int]:
+        """Asks one part after the other, and gives how many documents of each are found."""
+        for part in source.inputs(MOST):
+            with self._run(part.dump, request, option, stdout=stdout) as run:
+                try:
+                    yield counted(run).documents
+                except DumpError as error:
+                    raise error.moved(part.first, part.offset) from None
+                except ProgramError as error:
+                    if str(error) != CANNOT_WRITE:
+                        raise
+                    raise ProgramError(f"cannot write what is found{in_temporary()}") from error
 
     def _try(self) -> None:
         """Asks no documents, so that a refused request, or refused fields, are reported before the dump is read."""

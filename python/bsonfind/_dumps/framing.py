@@ -3,6 +3,7 @@
 from __future__ import annotations
 
 import os
+from collections import deque
 from itertools import groupby
 from operator import itemgetter
 from typing import BinaryIO, Callable, Iterable, Iterator
@@ -54,6 +55,28 @@ def ends_in(pieces: Iterable[bytes]) -> Iterator[int]:
         raise bad(number, start, "bad length")
     if at < seen:
         raise bad(number, at, "length cut short")
+
+
+def up_to_wrong_length(pieces: Iterable[bytes], left: list[DumpError]) -> Iterator[bytes]:
+    """The pieces up to the one with a wrong length, after which none is read: the error is put into a list if more may come."""
+    passed: deque[bytes] = deque()
+
+    def noted() -> Iterator[bytes]:
+        for piece in pieces:
+            passed.append(piece)
+            yield piece
+        # What is wrong by the end of all pieces leaves none.
+        ended.append(True)
+
+    ended: list[bool] = []
+    try:
+        for _ in ends_in(noted()):
+            while len(passed) > 1:
+                yield passed.popleft()
+    except DumpError as error:
+        if not ended:
+            left.append(error)
+    yield from passed
 
 
 def documents_taken(pieces: Iterable[bytes], take: Callable[[bytes], None]) -> Iterator[bytes]:
