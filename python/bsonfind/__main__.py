@@ -5,12 +5,13 @@ from __future__ import annotations
 import os
 import sys
 
-from ._command.program import become_program
+from ._command.program import become_program, take_utf8
 
 
 def main(words: list[str] | None = None) -> int:
     """Runs a command, and gives the status. Without arguments they are those of this process, which may become the program."""
     if words is None:
+        take_utf8()
         become_program(sys.argv[1:])
     from ._command.shell import run_command
 

@@ -5,8 +5,10 @@ import shutil
 import struct
 import subprocess
 import sys
+from pathlib import Path
 from typing import Dict, Optional
 
+from .archives import archive
 from .bson import document, field, int32, text
 from .support import PATIENCE, PEOPLE, PROGRAM, Room, environment, packed
 
@@ -52,6 +54,32 @@ class Locales(Room):
                 self.assertEqual((ran.returncode, ran.stdout.decode()), (0, '{"_id":{"$numberInt":"1"},"größe":{"$numberInt":"1"}}\n'))
                 ran = self.run_in(locale, "--program", PROGRAM, "compare", wide, wide, "--by", "größe")
                 self.assertEqual((ran.returncode, b"without" in ran.stdout), (0, False))
+
+    def test_commands_say_the_same(self) -> None:
+        """Each says the same bytes as in UTF-8, of names of files, collections and fields, and of texts that are not ASCII."""
+        backup, inside = self.room / "bäckup", self.file(archive([("db", "ü", LUIS + ADA)]), "ä.archive")
+        folder = self.file(LUIS + ADA, "bäckup/é/ü%2F東.bson").parent
+        self.file('{"collectionName":"ü/東","indexes":[{"name":"ä","key":{"ö":1}}]}'.encode(), "bäckup/é/ü%2F東.metadata.json")
+        log = self.file("done dumping é.ü/東 (2 documents)\ndone dumping é.ä (1 document)\n".encode(), "log")
+        names, odd = self.file(f"{folder}/ü%2F東.bson\n".encode(), "list"), self.file(ADA, os.fsdecode(b"\xe9.bson"))
+        locales = list(filter(None, ({"LC_ALL": "C.UTF-8"}, ASCII, self.latin())))
+        for words, status in (
+            (("audit", backup, "--expect", log), 1), (("audit", inside, odd), 0), (("check", f"{inside}::db.ü"), 0), (("dump", f"{inside}::db.ü"), 0),
+            (("info", backup), 0), (("info", backup, inside, "--json"), 0), (("audit", "--list", names), 0), (("grep", "Luís", backup, inside), 0),
+            (("grep", "-i", "LUÍS", backup), 0), (("grep", "--regex", "^Lu.s$", backup, "--json"), 0), (("schema", odd), 0),
+            (("count", odd, f"{folder}/ü%2F東.bson", "--by", "größe"), 0), (("query", "--query", '{"name":"Luís"}', backup), 0), (("compare", backup, folder), 1),
+            (("find", f"{inside}::db.ö"), 1), (("unpack", inside, self.room / "ö"), 0), (("salvage", backup, "--out", self.room / "ä"), 0),
+        ):  # fmt: skip
+            told = set()
+            for locale in locales:
+                for place in ("ö", "ä"):
+                    shutil.rmtree(self.room / place, ignore_errors=True)
+                words = tuple(os.fsencode(it) if isinstance(it, Path) else it for it in words)
+                ran = self.run_in(locale, "--program", PROGRAM, *words)
+                files = [(os.fsencode(it.relative_to(self.room)), it.read_bytes()) for it in sorted(self.room.rglob("*")) if it.is_file()]
+                told.add((ran.returncode, ran.stdout, ran.stderr, tuple(it for it in files if it[0].startswith((b"\xc3\xb6/", b"\xc3\xa4/")))))
+            with self.subTest(words[0]):
+                self.assertEqual([it[0] for it in told], [status], told)
 
     def test_functions(self) -> None:
         """Their texts are Python's, and so are the names of fields that the filter refuses."""

@@ -64,7 +64,9 @@ class Workers:
     def _start(self) -> Run:
         if not sys.executable:
             raise ProgramError("cannot start Python: it is not known where it is")
-        worker = Run([sys.executable, *_OPTIONS, _CODE], stdin=subprocess.PIPE, group=self._group)
+        # Its names of files are in the encoding of this process.
+        mode = ["-X", "utf8"] if sys.flags.utf8_mode else []
+        worker = Run([sys.executable, *mode, *_OPTIONS, _CODE], stdin=subprocess.PIPE, group=self._group)
         with self._lock:
             self._all.append(worker)
         for it in ((sys.path, sys.dont_write_bytecode), self._work):

@@ -5,6 +5,7 @@ from __future__ import annotations
 import os
 import signal
 import stat
+import sys
 
 from .. import __version__
 from .._run.program import WIDE, located_wide, says
@@ -32,6 +33,19 @@ _OPTIONS = {"check": (), "dump": LAYOUT, "find": (*_WITH_VALUES, *_FLAGS), PACK:
 _CSV = "--type csv"
 _APART = {"--bson": LAYOUT, "--count": ("--bson", "--batch", *LAYOUT), _CSV: ("--jsonFormat", "--noId", "--jsonArray", "--pretty")}
 _NEEDED = {_CSV: "--fields", "--noHeaderLine": _CSV, "--noId": "--fields"}
+
+
+def take_utf8() -> None:
+    """Starts this process again with UTF-8 for names of files, as they are in a dump, where the locale has another encoding."""
+    if sys.getfilesystemencoding() == "utf-8" or "utf8" in sys._xoptions:
+        return
+    own = ["-m", "bsonfind"] if sys.modules["__main__"].__spec__ else sys.argv[:1]
+    # Python before 3.10 does not know the options that it was started with.
+    words: list[str] = getattr(sys, "orig_argv", [sys.executable, *own, *sys.argv[1:]])
+    try:
+        os.execv(sys.executable, [sys.executable, "-X", "utf8", *words[1:]])
+    except OSError:
+        pass  # Then names that are not ASCII are not those of a log or an archive, which is reported.
 
 
 def become_program(words: list[str]) -> None:
