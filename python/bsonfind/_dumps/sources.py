@@ -49,7 +49,7 @@ class Source(AbstractContextManager["Source"]):
         self.name, self._is_named = name_of(path), is_named
         self._member = member_of(self.name)
         self._path = self._member.archive if self._member else self.name
-        # The name of a file that is no other one's, wherever this process goes.
+        # The whole name of a file, which does not change with the folder that this process is in.
         self._whole_name: str | None = None
         self._file: BinaryIO | None = None
         # The first bytes of a pipe or a device, once they are read and until they are passed on.
