@@ -424,7 +424,7 @@ class Audits(Room):
         lines = self.audit(self.backup, "--expect", str(log), status=1)
         self.assertEqual(lines[3], f"{self.people}: not in the log")
         self.assertEqual(lines[4:], self.table(("files", 3), ("documents", 900), ("faulty", 0), ("not in the log", 1)))
-        log.write_text("")
+        log.write_text("done dumping club.people (500 documents)\n")
         self.assertIn(f"{self.orders}: not in the log", self.audit(self.backup, "--expect", str(log), status=1))
 
     def test_oplog(self) -> None:
