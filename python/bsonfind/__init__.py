@@ -26,7 +26,8 @@ if TYPE_CHECKING:
     from ._ask.values import ObjectId
     from ._backup.audit import audit
     from ._backup.reports import Audit, Report
-    from ._backup.salvage import LeftOut, Salvaged, salvage
+    from ._backup.salvage import Salvaged, salvage
+    from ._backup.salvaging import LeftOut
     from ._backup.unpack import Collection, Unpacked, unpack
     from ._dumps.files import FileState
     from ._dumps.gzip import UnpackError
@@ -48,7 +49,8 @@ _MODULES = {
     "_ask.values": ["ObjectId"],
     "_backup.audit": ["audit"],
     "_backup.reports": ["Audit", "Report"],
-    "_backup.salvage": ["LeftOut", "Salvaged", "salvage"],
+    "_backup.salvage": ["Salvaged", "salvage"],
+    "_backup.salvaging": ["LeftOut"],
     "_backup.unpack": ["Collection", "Unpacked", "unpack"],
     "_dumps.files": ["FileState"],
     "_dumps.gzip": ["UnpackError"],

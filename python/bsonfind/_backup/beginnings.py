@@ -224,7 +224,7 @@ class Beginnings:
         """The places of those chains in which `check` finds no damage. One run looks at one of them at first, then at more."""
         waiting: deque[Chain] = deque()
         coming = filter(None, chains)
-        while chain := (waiting.popleft() if waiting else next(coming, None)):
+        while chain := (next(coming, None) if not waiting else waiting.popleft()):
             if any(it not in self._known for it in chain.documents()):
                 self._most = min(2 * self._most, _MOST_CHAINS) if abs(chain.place - self._last) < _NEAR else 1
                 held = 0

@@ -85,9 +85,14 @@ def _of_archive(archive: str, listed: Iterable[Listed], reports: Iterable[Report
 
 def _of_files(reports: Iterable[Report], names: Iterable[str], lists: dict[str, list[Listed]]) -> Iterator[Entry]:
     """The collections of dumps, and those of which metadata alone is below a directory."""
+
+    @lru_cache
+    def real(directory: str) -> str:
+        return os.path.realpath(directory)
+
     # The metadata of each dump, by the name of this without an ending, or by its own; a directory may have several names.
     described: dict[str, tuple[str, dict[str, Any]]] = {}
-    real, seen = lru_cache(os.path.realpath), set[str]()
+    seen: set[str] = set()
     for directory in filter(os.path.isdir, names):
         for path, metadata, _ in metadata_below(directory):
             inside, base = os.path.split(path)
