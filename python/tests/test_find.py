@@ -449,7 +449,7 @@ class Commands(Dumps):
                 self.assertEqual(large(path, *words, *form), (status, found, told.partition(", token")[0].rstrip("\n") + "\n"), words)
         with open(path, "rb") as file:
             self.assertEqual(large("-", "--count", "--limit=1", stdin=file), (0, b"1\n", "1 documents, end\n"))
-        # A count needs no room for what is found.
+        # A count needs no buffer for what is found.
         for words, count in (([], 18), (["--skip=4"], 14), (["--skip=4", "--limit=3"], 3), (["--skip=40"], 0), (["--query", '{"_id":{"$lt":2}}'], 6)):
             self.assertEqual(large(path, "--count", *words), (0, b"%d\n" % count, f"{count} documents, end\n"), words)
         bad = self.file(data + DAMAGED, "bad.bson")

@@ -18,7 +18,7 @@ from uuid import UUID
 from bsonfind import ProgramError
 from bsonfind._backup.backups import Dump
 from bsonfind._backup.grep import Hits, grep_dumps, wanted_of
-from bsonfind._backup.search import Search, Wanted, compiled, literal_in
+from bsonfind._backup.search import Search, Wanted, literal_in
 from bsonfind._dumps.sources import Unwatched
 
 from .archives import archive

@@ -243,8 +243,8 @@ class AsksForIds(Room):
         digits = "c8edabc3f7384ca3b68dab92a91478a3"
         uuid, old = (document(field(5, "_id", int32(16) + bytes([subtype]) + bytes.fromhex(digits))) for subtype in (4, 3))
         path = self.file(old + uuid, "uuids.bson")
-        for text in ("c8edabc3-f738-4ca3-b68d-ab92a91478a3", "C8EDABC3-F738-4CA3-B68D-AB92A91478A3"):
-            ids = self.file(f"{text}\n00000000-0000-0000-0000-000000000000\n".encode(), "ids")
+        for spelled in ("c8edabc3-f738-4ca3-b68d-ab92a91478a3", "C8EDABC3-F738-4CA3-B68D-AB92A91478A3"):
+            ids = self.file(f"{spelled}\n00000000-0000-0000-0000-000000000000\n".encode(), "ids")
             status, found, told = run_of_bytes("ids", str(path), "--ids", str(ids), "--bson")
             self.assertEqual((status, found), (1, uuid))
             self.assertEqual(told, "missing: 00000000-0000-0000-0000-000000000000\n1 of 2 ids found\n")

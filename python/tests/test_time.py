@@ -10,7 +10,7 @@ from bsonfind._backup.info import Entry, _ordered
 from bsonfind._backup.salvage import salvage
 
 from .goods import document, embedded, whole
-from .support import COMMAND, PATIENCE, PEOPLE, PROGRAM, Room, environment, run_package
+from .support import COMMAND, PATIENCE, PEOPLE, Room, environment, run_package
 from .test_salvage import ends_of
 
 GOOD, BAD = document(whole("a", 1)), document(b"\x08a\0\2")
@@ -58,7 +58,7 @@ class Time(Room):
             os.unlink(self.room / "starts") if (self.room / "starts").exists() else None
 
     def test_many_lengths_that_pass_over_documents(self) -> None:
-        """Each tenth length passes over the next document, which is good: no other one is lost."""
+        """Each tenth length skips the next document, which is good: no other one is lost."""
         data = bytearray(PEOPLE.read_bytes() * 4)
         ends = ends_of(bytes(data))
         wrong = range(5, len(ends) - 3, 10)

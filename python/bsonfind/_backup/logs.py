@@ -16,7 +16,7 @@ _DONE = re.compile(r"(?:^|\s)done dumping (\S.*?)(?: \(\d+ documents?\))?$")
 _FAILED = re.compile(r"(?:^|\s)(?:Failed: |signal \S+ received)")
 # What is between the name of a collection, which may have it too, and that of a file; and the end of the name of one of metadata.
 _TO, _METADATA = " to ", " metadata"
-# So many times the name of a collection has these words at most, which has 255 bytes.
+# The name of a collection has 255 bytes, so it has these words at most this often.
 _MOST_TO = 64
 _DUMPED, _COUNT = "done dumping ", re.compile(r" \(([0-9]{1,19}) documents?\)")
 _OPLOG_DUMPED = re.compile(r"dumped ([0-9]{1,19}) oplog entr(?:y|ies)")

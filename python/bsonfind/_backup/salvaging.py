@@ -89,7 +89,7 @@ class Salvaging:
             yield f"byte {at}: {self._window.error}; nothing after it can be read"
 
     def _next(self, at: int) -> _Batch | None:
-        """The documents that are next, which are being checked; None where the first length is wrong."""
+        """The documents that are next, which are being checked; None if the first length is wrong."""
         while self._ahead and self._ahead[0].ends[-1] <= at:
             self._ahead.popleft().close()
         if self._ahead and not self._ahead[0].go_to(at):
@@ -200,7 +200,7 @@ class _Batch:
         return at == self.start or self.ends[bisect_left(self.ends, at, 0, len(self.ends) - 1)] == at
 
     def go_to(self, at: int) -> bool:
-        """Passes over the documents before one that begins at a place; False if none does."""
+        """Skips the documents before one that begins at a place; False if none does."""
         if at != self.start:
             number = bisect_left(self.ends, at)
             if number == len(self.ends) or self.ends[number] != at:
