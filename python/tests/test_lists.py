@@ -20,7 +20,7 @@ class Logs(Room):
         self.backup = str(self.room / "backup")
 
     def test_encodings(self) -> None:
-        """UTF-16, as PowerShell writes it, or the byte order mark of UTF-8 before the text."""
+        """UTF-16, as PowerShell writes it, or the bytes EF BB BF before the text."""
         for data in (LOG.encode("utf-16"), codecs.BOM_UTF16_BE + LOG.replace("\n", "\r\n").encode("utf-16-be"), codecs.BOM_UTF8 + LOG.encode()):
             run = run_package("audit", self.backup, "--expect", str(self.file(data, "log")))
             self.assertEqual((run.returncode, run.stderr), (0, ""), run.stdout)
@@ -69,7 +69,7 @@ class Lists(Room):
             self.assertEqual((run.returncode, run.stdout, run.stderr), (2, b"", b"bsonkit: standard input is named twice\n"), words)
 
     def test_ids_of_another_encoding(self) -> None:
-        """The byte order mark of UTF-8, and UTF-16, are read; a line that is neither is named."""
+        """EF BB BF before the text, and UTF-16, are read; a line that is neither is named."""
         for data in (codecs.BOM_UTF8 + b"7\n", "7\r\n".encode("utf-16")):
             self.assertEqual(self.ids(data), [0, PEOPLE_LINES[7] + b"\n", "1 of 1 ids found\n"])
         self.assertEqual(self.ids(b'7\n\n"Zo\xff"\n'), [2, b"", "bsonkit: -: line 3: not UTF-8\n"])
