@@ -68,7 +68,7 @@ BAD: Dict[str, List[Any]] = {
     "uuid_representation": [5, None, [], "unspecified", "STANDARD"],
     "hint": [5, {}, [("age",)], ["age", "name"], {"age": 1, "name": 1}, {"$natural": -1}, [(b"age", 1)], [("$natural", MANY)], MANY],
     "parts": [5, None, [5], "ab", Part(str(PEOPLE), 0, 5, 0)],
-    **dict.fromkeys(("sparse", "with_crc"), [object(), "yes"]),
+    **dict.fromkeys(("ids", "sparse", "with_crc"), [object(), "yes"]),
     "only": [5, "shop.orders", [], [5]],
     "digits": [5, "5", "g" * 24],
     "key": [5, None, "", ["a"]],

@@ -56,8 +56,8 @@ APART = (
     ("find", ["--batch", "0", "--count"], "--count does not go with --batch"),
     ("find", ["--type", "tsv"], "invalid choice: 'tsv'"),
     ("dump", ["--jsonFormat="], "invalid choice: ''"),
-    ("dump", ["--fields", "--pretty"], "argument --fields: expected one argument"),
-    ("dump", ["--fields"], "argument --fields: expected one argument"),
+    ("dump", ["--fields", "--pretty"], "argument -f/--fields: expected one argument"),
+    ("dump", ["--fields"], "argument -f/--fields: expected one argument"),
     ("find", ["--pretty", "--pretty"], "argument --pretty: it is given twice"),
     ("dump", ["--bson"], "unrecognized arguments: --bson"),
 )
