@@ -198,7 +198,8 @@ class Refusals(Room):
         self.assertEqual((len(found), b"".join(found)), (500, PEOPLE.read_bytes()))
 
     def test_without_pymongo(self) -> None:
-        with mock.patch.dict(sys.modules, {"bson": None}), self.assertRaisesRegex(ArgumentError, "pymongo"):
+        absent = mock.patch.dict(sys.modules, {"bson": None, "bson.json_util": None})
+        with absent, self.assertRaisesRegex(ArgumentError, "pymongo"):
             find_one(PEOPLE, decode="json_util", program=PROGRAM)
 
     def test_files_that_are_no_dumps(self) -> None:
