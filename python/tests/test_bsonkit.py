@@ -265,7 +265,7 @@ class Becoming(Room):
                 self.assertEqual(ignored([*shell, *command]), ignored([*shell, "grep", "SigIgn", "/proc/self/status"]), (trap, command))
 
     def test_time(self) -> None:
-        """Beside the start of Python itself, `--help` and a plain file take at most 40 ms of processor time more, by the least of five."""
+        """Beside the start of Python `--help` takes less processor time than two more of them, and a plain file less than one."""
 
         def seconds(*words: str) -> float:
             times = []
@@ -277,8 +277,8 @@ class Becoming(Room):
             return min(times)
 
         start = seconds("-c", "pass")
-        for words in (["-m", "bsonfind", "--help"], [*COMMAND[1:], "check", str(PEOPLE)]):
-            self.assertLess(seconds(*words) - start, 0.040, words)
+        self.assertLess(seconds("-m", "bsonfind", "--help"), 3 * start)
+        self.assertLess(seconds(*COMMAND[1:], "check", str(PEOPLE)), 2 * start)
 
 
 class Programs(Room):

@@ -114,14 +114,14 @@ for name, value in (("_backup.reading._MOST", 1 << 15), ("_backup.grep._MOST", 1
 for path in sys.argv[-3:]:
     tracemalloc.start()
     main([*sys.argv[1:-3], path])
-    print(tracemalloc.get_traced_memory()[1], file=sys.stderr)
+    print("\\npeak", tracemalloc.get_traced_memory()[1], file=sys.stderr)
     tracemalloc.stop()
 """
         # What the first one takes to import is not compared.
         paths = [self.file(PEOPLE_DATA * count, f"{count}.bson") for count in (1, 3, 12)]
         for words in (*READING[1:4], ("schema", "--sample", "50"), ("info",), GREP):
             run = subprocess.run([sys.executable, "-c", code, *words, *paths], env=environment(), capture_output=True, timeout=PATIENCE)
-            _, less, more = (int(it) for it in run.stderr.split() if it.isdigit() and len(it) > 5)
+            _, less, more = (int(it.split()[1]) for it in run.stderr.splitlines() if it.startswith(b"peak "))
             self.assertLess(more, 1.5 * less, words)
 
     def test_terminals(self) -> None:
